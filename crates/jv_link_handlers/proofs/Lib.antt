@@ -1,3 +1,4 @@
 pub mod InPieces
 pub mod Merging
 pub mod Least
+pub mod Asked

@@ -1,4 +1,4 @@
 pub mod Choices
 pub mod Finding
+pub mod Nodes
 pub mod Pieces
-pub mod Trees

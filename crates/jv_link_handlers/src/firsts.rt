@@ -8,13 +8,13 @@ ghost use Rattle.jv_link_handlers.specs.Firsts.{reaches_to, AreFirsts};
 use crate::pieces::NONE;
 use crate::placed::placed_of;
 use crate::reach::Reach;
-use crate::tree::{Tree, found, tree_of};
+use crate::tree::{Node, found, grow};
 use std::alloc::{AllocError, Global};
 
 /// Which reach of a list holds an offset and a rank first, for each of these.
 #[derive(Drop)]
 pub struct Firsts {
-    tree: Tree,
+    nodes: Vec<Node>,
 }
 
 /// Finds for each offset and each rank which of the reaches holds both first.
@@ -27,8 +27,9 @@ pub fn firsts_of(alloc: Global, reaches: &[Reach]) -> Result<Firsts, AllocError>
     ensures { IfOk result (AreFirsts reaches.now) }
 {
     let placed = placed_of(alloc, reaches)?;
-    let tree = tree_of(alloc, &placed, 0, 65_535)?;
-    Ok(Firsts { tree })
+    let mut nodes = Vec::new(alloc);
+    grow(alloc, &mut nodes, &placed, 0, 65_535)?;
+    Ok(Firsts { nodes })
 }
 
 /// Which of the reaches that these are the firsts of holds an offset and a rank first.
@@ -36,6 +37,6 @@ pub fn first_at(firsts: &Firsts, offset: u16, rank: u16) -> Option<u16>
     requires { rank < 65535 }
     ensures { (reaches : List Reach) → AreFirsts reaches firsts.now → result ≡ position (reaches_to offset rank) reaches }
 {
-    let place = found(&firsts.tree, offset, rank);
+    let place = found(&firsts.nodes, offset, rank);
     if place < NONE { Some(place) } else { None }
 }

@@ -1,26 +1,24 @@
 //! Functions from offsets and ranks to places.
 
-ghost use Rattle.std.specs.Prelude.{◌≡◌, ℕ, ◌+◌, ◌<◌, ◌≤◌, IfOk};
+ghost use Rattle.std.specs.Prelude.{◌≡◌, ℕ, ◌+◌, ◌<◌, ◌≤◌, IfOk, OnOk, length};
 ghost use Rattle.jv_link_handlers.specs.Inside.Finding.{least, holds, holds_offset};
 ghost use Rattle.jv_link_handlers.specs.Inside.Choices.{is_full};
 ghost use Rattle.jv_link_handlers.specs.Inside.Pieces.{place_in, Rise};
-ghost use Rattle.jv_link_handlers.specs.Inside.Trees.{found, Rises};
+ghost use Rattle.jv_link_handlers.specs.Inside.Nodes.{found, found_to, Rises, Lengthens};
 ghost use Rattle.std.specs.List.{filter};
 
-use crate::pieces::{Piece, pieces_of, place_at};
+use crate::pieces::{NONE, Piece, pieces_of, place_at};
 use crate::placed::{Placed, above_of, below_of, full_of, parts_of};
 use std::alloc::{AllocError, Global};
 
-/// The places of offsets that hold for all ranks, and those for the ranks below the middle one and for the others.
+/// A node of a tree, whose nodes stand in a row: the places of offsets that hold for all ranks that come here. More is found for the ranks
+/// from the middle one on at the node before this one, and for those below it at the last of so many of the first nodes; where there is
+/// none, nothing more.
 #[derive(Drop)]
-pub(crate) enum Tree {
-    Leaf(Vec<Piece>),
-    Fork {
-        pieces: Vec<Piece>,
-        middle: u16,
-        below: Box<Tree>,
-        above: Box<Tree>,
-    },
+pub(crate) struct Node {
+    pieces: Vec<Piece>,
+    middle: u16,
+    below: usize,
 }
 
 /// The least places of those that hold all ranks from one up to another.
@@ -63,55 +61,58 @@ fn middle_of(alloc: Global, placed: &[Placed], low: u16, high: u16) -> Result<u1
     Ok(middle.max(low + 1).min(high - 1))
 }
 
-/// The least places of reaches, for the ranks from one up to another.
-pub(crate) fn tree_of(
+/// Adds a tree of the least places of reaches, for the ranks from one up to another.
+pub(crate) fn grow(
     alloc: Global,
+    nodes: &mut Vec<Node>,
     placed: &[Placed],
     low: u16,
     high: u16,
-) -> Result<Tree, AllocError>
+) -> Result<(), AllocError>
     requires { low < high }
-    ensures found { IfOk result (λ tree. (offset rank : ℕ) → low ≤ rank → rank < high
-        → found tree offset rank ≡ least (holds offset rank) placed.now) }
-    ensures rise { IfOk result Rises }
+    ensures found { OnOk result ((offset rank : ℕ) → low ≤ rank → rank < high
+        → found nodes.new.items offset rank ≡ least (holds offset rank) placed.now) }
+    ensures longer { OnOk result (Lengthens nodes.old.items nodes.new.items) }
+    ensures rise { OnOk result (Rises nodes.old.items → Rises nodes.new.items) }
 {
     let pieces = full_pieces(alloc, placed, low, high)?;
     let parts = parts_of(alloc, placed, low, high)?;
     if high - low < 2 || parts.is_empty() {
-        return Ok(Tree::Leaf(pieces));
+        nodes.push(Node {
+            pieces,
+            middle: high,
+            below: 0,
+        })?;
+        return Ok(());
     }
     let middle = middle_of(alloc, &parts, low, high)?;
     let lesser = below_of(alloc, &parts, middle)?;
-    let below = tree_of(alloc, &lesser, low, middle)?;
+    grow(alloc, nodes, &lesser, low, middle)?;
+    let below = nodes.len();
     let greater = above_of(alloc, &parts, middle)?;
-    let above = tree_of(alloc, &greater, middle, high)?;
-    Ok(Tree::Fork {
+    grow(alloc, nodes, &greater, middle, high)?;
+    nodes.push(Node {
         pieces,
         middle,
-        below: Box::new(alloc, below)?,
-        above: Box::new(alloc, above)?,
-    })
+        below,
+    })?;
+    Ok(())
 }
 
-/// The place of an offset and a rank.
-pub(crate) fn found(tree: &Tree, offset: u16, rank: u16) -> u16
-    ensures { Rises tree.now → result ≡ found tree.now offset rank }
+/// The place of an offset and a rank, by the last node.
+pub(crate) fn found(nodes: &[Node], offset: u16, rank: u16) -> u16
+    ensures { Rises nodes.now → result ≡ found nodes.now offset rank }
 {
-    match tree {
-        Tree::Leaf(pieces) => place_at(pieces, offset),
-        Tree::Fork {
-            pieces,
-            middle,
-            below,
-            above,
-        } => {
-            let here = place_at(pieces, offset);
-            let there = if rank < *middle {
-                found(below, offset, rank)
-            } else {
-                found(above, offset, rank)
-            };
-            here.min(there)
-        }
+    let mut place = NONE;
+    let mut left = nodes.len();
+    while left > 0 {
+        let node = &nodes[left - 1];
+        place = place.min(place_at(&node.pieces, offset));
+        left = if rank < node.middle {
+            node.below.min(left - 1)
+        } else {
+            left - 1
+        };
     }
+    place
 }

@@ -69,3 +69,12 @@ pub(crate) fn work<'a>(kept: &mut Kept<'a>, job: Job) -> Done
         None => coded(kept.alloc, NO_HOST),
     }
 }
+
+fn moves_to_another_thread<T: Send>() {}
+
+/// What a host borrows, and a host, may each be used by one thread after the other: a call that does nothing, and is proved only where both
+/// are `Send`.
+pub fn kept_is_send() {
+    moves_to_another_thread::<Owned>();
+    moves_to_another_thread::<Kept<'static>>();
+}

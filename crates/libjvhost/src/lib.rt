@@ -18,4 +18,5 @@ mod told;
 mod verdict_text;
 
 pub use handle::{JvHost, Opaque, Owner};
+pub use kept::kept_is_send;
 pub use told::{Guest, Seen, ToldVerdict};
