@@ -1,41 +1,14 @@
 /* Hard use: many hosts one after the other, two threads with a host each, and a malloc that fails at each call in turn.
  * Use: hard FOLDER [HOSTS], where FOLDER holds Hi.class. With glibc. */
 #define _GNU_SOURCE
+#include "check.h"
+#include "failing.h"
 #include "folder.h"
 
 #include <malloc.h>
 #include <pthread.h>
 
 static struct folder hi;
-static int wrong;
-/* The calls that are left until one fails; none does while this is below 0. */
-static long left = -1;
-static unsigned long calls;
-
-void *__libc_malloc(size_t size);
-void *__libc_realloc(void *block, size_t size);
-
-static int fails(void) {
-    calls++;
-    return left >= 0 && left-- == 0;
-}
-
-/* The library's calls come here, as all of the process do. */
-void *malloc(size_t size) {
-    return fails() ? NULL : __libc_malloc(size);
-}
-
-void *realloc(void *block, size_t size) {
-    return fails() ? NULL : __libc_realloc(block, size);
-}
-
-#define CHECK(fact)                                                   \
-    do {                                                              \
-        if (!(fact)) {                                                \
-            printf("%s:%d: not so: %s\n", __FILE__, __LINE__, #fact); \
-            wrong++;                                                  \
-        }                                                             \
-    } while (0)
 
 /* Each call once; whether all were done. Where one is refused it is for want of memory, and what it was to write is as it was. */
 static int whole_life(uint32_t *refused) {

@@ -1,36 +1,11 @@
 /* A test of each function of jvhost.h, and of each misuse that a call can see. Use: test FOLDER, where FOLDER holds Hi.class. */
-#include "jvhost.h"
+#include "check.h"
+#include "folder.h"
 
-#include <stdio.h>
-#include <stdlib.h>
-#include <string.h>
-
-static int wrong;
-
-#define CHECK(fact)                                                        \
-    do {                                                                   \
-        if (!(fact)) {                                                     \
-            printf("%s:%d: not so: %s\n", __FILE__, __LINE__, #fact);      \
-            wrong++;                                                       \
-        }                                                                  \
-    } while (0)
-
-static uint8_t hi[4096];
-static jvhost_bytes hi_file;
-
-static int read_hi(const char *folder) {
-    char path[1024];
-    snprintf(path, sizeof path, "%s/Hi.class", folder);
-    FILE *file = fopen(path, "rb");
-    if (file == NULL)
-        return 0;
-    hi_file = jvhost_bytes_of(hi, fread(hi, 1, sizeof hi, file));
-    fclose(file);
-    return hi_file.length != 0;
-}
+static struct folder hi;
 
 static jvhost_guest hi_guest(void) {
-    return jvhost_guest_of(&hi_file, 1, "Hi", NULL, 0);
+    return jvhost_guest_of(hi.files, hi.count, "Hi", NULL, 0);
 }
 
 static jvhost_seen unseen(void) {
@@ -97,11 +72,11 @@ static void one_guest(void) {
 /* Hi with a main that calls before it has pushed what it passes: its bipush, two bytes, is made two nops. */
 static size_t broken_hi(uint8_t *to) {
     static const uint8_t code[] = {0x10, 'H', 0xb8};
-    memcpy(to, hi, hi_file.length);
-    for (size_t i = 0; i + sizeof code <= hi_file.length; i++)
+    memcpy(to, hi.files[0].bytes, hi.files[0].length);
+    for (size_t i = 0; i + sizeof code <= hi.files[0].length; i++)
         if (memcmp(to + i, code, sizeof code) == 0)
             to[i] = to[i + 1] = 0;
-    return hi_file.length;
+    return hi.files[0].length;
 }
 
 static void verdicts_and_throws(void) {
@@ -111,7 +86,7 @@ static void verdicts_and_throws(void) {
     size_t count = 0;
     jvhost_verdict_t verdicts[3];
     jvhost_bytes files[3];
-    files[0] = hi_file;
+    files[0] = hi.files[0];
     files[1] = jvhost_bytes_of(bytes, broken_hi(bytes));
     files[2] = jvhost_bytes_of(NULL, 0);
     CHECK(jvhost_check(files, 1, verdicts, 3) == JVHOST_OK && verdicts[0].kind == JVHOST_VERDICT_ACCEPTED);
@@ -243,7 +218,7 @@ static void misuses(void) {
     static const uint8_t one[1] = {0};
     static jvhost_bytes many[1025];
     for (i = 0; i < 1025; i++)
-        many[i] = hi_file;
+        many[i] = hi.files[0];
     uint32_t (*const admit[])(jvhost_t *, const jvhost_guest *, uint32_t *) = {jvhost_admit, jvhost_admit_copy};
     for (i = 0; i < 2; i++) {
         guest = hi_guest();
@@ -323,7 +298,9 @@ static void misuses(void) {
 }
 
 int main(int argc, char **argv) {
-    if (argc != 2 || !read_hi(argv[1])) {
+    if (argc == 2)
+        read_folder(argv[1], &hi);
+    if (hi.count != 1) {
         fprintf(stderr, "use: %s FOLDER, where FOLDER holds Hi.class\n", argv[0]);
         return 2;
     }
@@ -334,6 +311,7 @@ int main(int argc, char **argv) {
     alone();
     no_host();
     misuses();
+    free_folder(&hi);
     printf("%d wrong\n", wrong);
     return wrong != 0;
 }
