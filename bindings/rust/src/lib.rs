@@ -139,31 +139,84 @@ pub enum End {
 
 /// The verdict on a class file.
 #[derive(Clone, Copy, Debug, PartialEq, Eq)]
-pub struct Verdict {
-    kind: u32,
-    /// Of a file that breaks a rule the method's place in the file, else 0.
-    pub method: u32,
-    /// Of a file that breaks a rule the offset in the method's code, else 0.
-    pub offset: u32,
-    /// Of a file that breaks a rule the rule, 1 to 8, else 0.
-    pub rule: u32,
+pub enum Verdict {
+    /// Each method with code is type safe.
+    Accepted,
+    /// A method is not.
+    Verify {
+        /// Its place among the methods of the file.
+        method: u32,
+        /// The offset in its code.
+        offset: u32,
+        /// The rule that it breaks there, 1 to 8.
+        rule: u32,
+    },
+    /// The bytes begin like a class file of a version other than 50.0, 51.0 and 52.0.
+    Version,
+    /// The bytes are no class file.
+    Format,
+    /// A class file with more than the host's profile has.
+    Unsupported,
+    /// The class has a name that is the system's.
+    Reserved,
+    /// The class has the name of an earlier file's class.
+    Duplicate,
+    /// The class is among its own superclasses and superinterfaces.
+    Circular,
+    /// A direct super is not there, or cannot be loaded.
+    NoSuper,
+    /// The superclass is an interface, or a direct superinterface is none.
+    WrongKind,
+    /// A direct super is not open to the class.
+    NoAccess,
+    /// The superclass is final, or a method overrides a final one.
+    FinalBroken,
 }
+
+/// The verdicts without more to say, by their number, the first at 2.
+const REFUSALS: [Verdict; 10] = [
+    Verdict::Version,
+    Verdict::Format,
+    Verdict::Unsupported,
+    Verdict::Reserved,
+    Verdict::Duplicate,
+    Verdict::Circular,
+    Verdict::NoSuper,
+    Verdict::WrongKind,
+    Verdict::NoAccess,
+    Verdict::FinalBroken,
+];
 
 impl Verdict {
     fn of(told: calls::Verdict) -> Verdict {
-        Verdict { kind: told.kind, method: told.method, offset: told.offset, rule: told.rule }
+        match told.kind {
+            0 => Verdict::Accepted,
+            1 => Verdict::Verify { method: told.method, offset: told.offset, rule: told.rule },
+            kind => REFUSALS[kind as usize - 2],
+        }
+    }
+
+    fn told(&self) -> calls::Verdict {
+        match *self {
+            Verdict::Accepted => calls::Verdict::default(),
+            Verdict::Verify { method, offset, rule } => calls::Verdict { kind: 1, method, offset, rule },
+            refusal => {
+                let place = REFUSALS.iter().position(|it| *it == refusal).unwrap_or(0);
+                calls::Verdict { kind: place as u32 + 2, ..calls::Verdict::default() }
+            }
+        }
     }
 
     /// Whether the class is accepted.
     pub fn is_accepted(&self) -> bool {
-        self.kind == 0
+        *self == Verdict::Accepted
     }
 }
 
 /// The verdict as `jvhost check` prints it.
 impl fmt::Display for Verdict {
     fn fmt(&self, f: &mut fmt::Formatter<'_>) -> fmt::Result {
-        let told = calls::Verdict { kind: self.kind, method: self.method, offset: self.offset, rule: self.rule };
+        let told = self.told();
         let (mut room, mut length) = ([0; 64], 0);
         // SAFETY: the room is as long as the call is told.
         let code = unsafe { calls::jvhost_verdict_text(&told, room.as_mut_ptr(), room.len(), &mut length) };

@@ -1,7 +1,7 @@
 //! Each call of the crate, without `unsafe`.
 #![forbid(unsafe_code)]
 
-use jvhost::{check, judge, version, End, Error, Guest, Host};
+use jvhost::{check, judge, version, End, Error, Guest, Host, Verdict};
 use std::fs;
 use std::thread;
 
@@ -27,6 +27,7 @@ fn checks_files() {
     let texts: Vec<String> = verdicts.iter().map(ToString::to_string).collect();
     assert_eq!(texts, ["Accepted", "Format", "Duplicate"]);
     assert!(verdicts[0].is_accepted() && !verdicts[1].is_accepted());
+    assert_eq!(verdicts, [Verdict::Accepted, Verdict::Format, Verdict::Duplicate]);
     assert_eq!(check(&[]), Err(Error::NoFiles));
 }
 
