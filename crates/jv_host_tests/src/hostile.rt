@@ -4,7 +4,7 @@
 use crate::program::{
     FEEDS, Memory, Narrow, Pieces, REFUSALS, REPORTS, Row, does, is_out, words_of,
 };
-use jv_program::command;
+use jv_program::{Sink, Stream, command};
 use std::alloc::{AllocError, Global};
 use std::hash::RandomState;
 use std::io;
@@ -62,7 +62,7 @@ impl Read for Zeros {
 }
 
 /// The status that the program ends with, over an input of zeros.
-fn status_with<O: Write, E: Write>(
+fn status_with<O: Sink, E: Sink>(
     alloc: Global,
     state: RandomState,
     words: &[String],
@@ -78,12 +78,12 @@ fn is_not_heard(alloc: Global, state: RandomState) -> bool {
         let Ok(words) = words_of(alloc, row.words) else {
             return false;
         };
-        let mut err = Vec::new(alloc);
-        let status = status_with(alloc, state, words.as_slice(), &mut Idle, &mut err);
-        if status != 6 || err.as_slice() != "jvhost: output\n".as_bytes() {
+        let mut err = Stream(Vec::new(alloc));
+        let status = status_with(alloc, state, words.as_slice(), &mut Stream(Idle), &mut err);
+        if status != 6 || err.0.as_slice() != "jvhost: output\n".as_bytes() {
             return false;
         }
-        if status_with(alloc, state, words.as_slice(), &mut Idle, &mut Idle) != 6 {
+        if status_with(alloc, state, words.as_slice(), &mut Stream(Idle), &mut Stream(Idle)) != 6 {
             return false;
         }
     }
@@ -95,9 +95,9 @@ fn is_not_heard(alloc: Global, state: RandomState) -> bool {
         let Ok(words) = words_of(alloc, row.words) else {
             return false;
         };
-        let mut out = Vec::new(alloc);
-        let status = status_with(alloc, state, words.as_slice(), &mut out, &mut Idle);
-        if status != row.status || !out.is_empty() {
+        let mut out = Stream(Vec::new(alloc));
+        let status = status_with(alloc, state, words.as_slice(), &mut out, &mut Stream(Idle));
+        if status != row.status || !out.0.is_empty() {
             return false;
         }
     }
@@ -163,12 +163,12 @@ fn takes_many(alloc: Global, state: RandomState) -> bool {
         let Ok(words) = words_and_many(alloc, *line, *word, *count) else {
             return false;
         };
-        let mut out = Vec::new(alloc);
-        let mut err = Vec::new(alloc);
+        let mut out = Stream(Vec::new(alloc));
+        let mut err = Stream(Vec::new(alloc));
         let ended = status_with(alloc, state, words.as_slice(), &mut out, &mut err);
-        let is_silent = tail.is_empty() && out.is_empty();
-        let is_whole = !tail.is_empty() && out.as_slice().ends_with(tail.as_bytes());
-        if ended != *status || !(is_silent || is_whole) || err.as_slice() != told.as_bytes() {
+        let is_silent = tail.is_empty() && out.0.is_empty();
+        let is_whole = !tail.is_empty() && out.0.as_slice().ends_with(tail.as_bytes());
+        if ended != *status || !(is_silent || is_whole) || err.0.as_slice() != told.as_bytes() {
             return false;
         }
     }
@@ -180,10 +180,10 @@ fn is_fed_no_more(alloc: Global, state: RandomState) -> bool {
     let Ok(words) = words_of(alloc, "jvhost run --stdin 1 --quantum 1 in") else {
         return false;
     };
-    let mut out = Vec::new(alloc);
-    let mut err = Vec::new(alloc);
+    let mut out = Stream(Vec::new(alloc));
+    let mut err = Stream(Vec::new(alloc));
     let status = status_with(alloc, state, words.as_slice(), &mut out, &mut err);
-    status == 3 && out.is_empty() && err.as_slice() == "jvhost: InputTooLong\n".as_bytes()
+    status == 3 && out.0.is_empty() && err.0.as_slice() == "jvhost: InputTooLong\n".as_bytes()
 }
 
 /// Whether the program does what a row of standard input says, or wants memory, tells so if it can, and has no report.
@@ -197,11 +197,11 @@ fn is_fed_or_has_no_memory(alloc: Global, state: RandomState) -> bool {
         piece: 1,
         good: row.good,
     };
-    let mut out = Narrow {
+    let mut out = Stream(Narrow {
         room: 65_536,
         taken: Vec::new(alloc),
-    };
-    let mut err = Vec::new(alloc);
+    });
+    let mut err = Stream(Vec::new(alloc));
     let status = command(
         alloc,
         state,
@@ -211,18 +211,18 @@ fn is_fed_or_has_no_memory(alloc: Global, state: RandomState) -> bool {
         &mut out,
         &mut err,
     );
-    let told = err.as_slice();
+    let told = err.0.as_slice();
     if status == 4 {
         let is_told = told == "jvhost: Memory\n".as_bytes()
             || told == "jvhost: HostMemory\n".as_bytes()
             || told.is_empty();
-        return out.taken.is_empty() && is_told;
+        return out.0.taken.is_empty() && is_told;
     }
     // An output without memory is one that fails.
     if status == 6 {
-        return out.taken.is_empty() && told == "jvhost: output\n".as_bytes();
+        return out.0.taken.is_empty() && told == "jvhost: output\n".as_bytes();
     }
-    status == row.status && is_out(out.taken.as_slice(), row.out) && told.is_empty()
+    status == row.status && is_out(out.0.taken.as_slice(), row.out) && told.is_empty()
 }
 
 #[test]

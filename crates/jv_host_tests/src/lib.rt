@@ -12,6 +12,8 @@ mod folder;
 #[cfg(test)]
 mod hostile;
 #[cfg(test)]
+mod known;
+#[cfg(test)]
 mod memory;
 #[cfg(test)]
 mod program;

@@ -1,7 +1,7 @@
 //! What no clause says of the program: what it prints, and its statuses, over folders, an input and outputs in memory.
 
 use crate::files::{ECHO_FILE, HI};
-use jv_program::command;
+use jv_program::{Stream, command};
 use jv_program_base::Folders;
 use std::alloc::{AllocError, Global};
 use std::hash::RandomState;
@@ -262,6 +262,8 @@ impl Folders for Memory {
 
     type Listing = Pieces;
 
+    ghost disk = { λ _. None };
+
     fn open_file(&mut self, path: &str) -> io::Result<Pieces> {
         found(&FILES, path)
     }
@@ -334,11 +336,11 @@ pub(crate) fn does(alloc: Global, state: RandomState, row: &Row, room: usize) ->
         piece: 1,
         good: row.good,
     };
-    let mut out = Narrow {
+    let mut out = Stream(Narrow {
         room,
         taken: Vec::new(alloc),
-    };
-    let mut err = Vec::new(alloc);
+    });
+    let mut err = Stream(Vec::new(alloc));
     let status = command(
         alloc,
         state,
@@ -349,10 +351,10 @@ pub(crate) fn does(alloc: Global, state: RandomState, row: &Row, room: usize) ->
         &mut err,
     );
     let is_told = match row.err {
-        Some(text) => err.as_slice() == text.as_bytes(),
-        None => !err.is_empty(),
+        Some(text) => err.0.as_slice() == text.as_bytes(),
+        None => !err.0.is_empty(),
     };
-    status == row.status && is_out(out.taken.as_slice(), row.out) && is_told
+    status == row.status && is_out(out.0.taken.as_slice(), row.out) && is_told
 }
 
 const HI_TOLD: &str =

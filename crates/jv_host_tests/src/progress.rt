@@ -1,7 +1,7 @@
 //! What `--progress` tells, and where.
 
 use crate::program::{Memory, Pieces, words_of};
-use jv_program::{ProgressLine, command_watched};
+use jv_program::{ProgressLine, Stream, command_watched};
 use std::alloc::Global;
 use std::cell::Cell;
 use std::hash::RandomState;
@@ -65,8 +65,8 @@ fn tells(
         piece: 1,
         good: 9,
     };
-    let mut out = Vec::new(alloc);
-    let mut err = Vec::new(alloc);
+    let mut out = Stream(Vec::new(alloc));
+    let mut err = Stream(Vec::new(alloc));
     let mut bytes = Vec::new(alloc);
     let clock = Ticks(Cell::new(0));
     let screen = Screen {
@@ -83,7 +83,7 @@ fn tells(
         &mut err,
         &mut ProgressLine::new(&clock, screen),
     );
-    ends == status && bytes.as_slice() == text && err.is_empty()
+    ends == status && bytes.as_slice() == text && err.0.is_empty()
 }
 
 #[test]

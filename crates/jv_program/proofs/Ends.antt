@@ -1,13 +1,15 @@
 -- How the program ends.
-use Rattle.std.proofs.Common.{◌≡◌, ◌≢◌, ◌⊎◌, ℕ, List, Option, Result, Ok, Err, refl, sym, subst, ◌∙◌, inl, inr}
-use Rattle.std.specs.Prelude.{IfErr, IfOk, IsErrAnd, OnErr, OnOk, string_bytes}
+use Rattle.std.proofs.Common.{◌≡◌, ◌≢◌, ◌⊎◌, ℕ, Bool, true, false, List, Option, Result, Ok, Err, refl, sym, subst, ◌∙◌, inl, inr}
+use Rattle.std.specs.Prelude.{IfErr, IfOk, IsErrAnd, IsOk, IsTrue, OnErr, OnOk, string_bytes}
 use Rattle.std.specs.Io.KnownBytes.{Appends}
 use Rattle.clap.specs.Values.{kind_of}
 use Rattle.clap.specs.Words.{IsAmong, fault_of}
 use Rattle.clap.specs.declared.error.Error.{Error}
 use Rattle.clap.specs.declared.error.kind.ErrorKind.{ErrorKind}
 use Rattle.clap.specs.declared.error.kind.ErrorKind.TheVariants as kinds
+use Rattle.jv_program_base.specs.Disk.{Disk}
 use Rattle.jv_program_check.specs.Named.{IsNamedFailure}
+use Rattle.jv_program_base.specs.Failure.{failure_line}
 use Rattle.jv_program_base.specs.declared.failure.Failure.{Failure}
 use Rattle.jv_program_base.specs.declared.outcome.Outcome.{Outcome}
 use Rattle.jv_program_run.specs.Named.{IsRunFailure}
@@ -15,9 +17,9 @@ use Rattle.jv_program_words.specs.declared.asked.RunOptions.{RunOptions}
 use Rattle.jv_program_words.specs.Settings.Asked.{run, check}
 use Rattle.jv_program_words.specs.CommandLine.{command_line}
 use Rattle.jv_program_words.specs.Settings.{AskFor, AskForHelp, AreRefused}
-use Rattle.jv_program.specs.Command.{AreWrong, HasEnded, IsReport, settings_of}
+use Rattle.jv_program.specs.Command.{AreWrong, HasEnded, IsReport, settings_of, streams}
 use Rattle.jv_program.specs.Inside.Stops.{IsCarriedOut, IsEarly}
-use Rattle.jv_program.specs.Status.{HasStatus, IsAsked, IsStatusOf}
+use Rattle.jv_program.specs.Status.{HasStatus, IsAsked, IsStatusOf, output_line}
 use Rattle.jv_program.specs.Written.{WritesCut}
 use Rattle.jv_program.specs.declared.stop.Stop.{Stop}
 use Rattle.jv_program.specs.declared.stop.Stop.TheVariants.{CommandLine, Run, Output}
@@ -55,76 +57,106 @@ help_asked line error (inr nothing) (inl help) = let none : kinds.ValueValidatio
 help_asked line error (inr nothing) (inr version) =
     let none : kinds.ValueValidation ≡ kinds.DisplayVersion = sym nothing.1 ∙ version in cc
 
--- what was told: nothing on the output, but where words ask for it
-abbrev pub IsTold : Option (List ℕ) → Option (List ℕ) → Result Outcome Stop → Type 0
-IsTold mid new (Ok outcome) = new ≡ mid
-IsTold mid new (Err stop) = (IsAsked stop → ⊥) → new ≡ mid
+-- what was told: nothing on the output, but where words ask for it; and with the errors the line of a failure, or of an output that is lost
+pub record IsToldOf (sure : Bool) (mid new e0 e1 : Option (List ℕ)) (stop : Stop) : Type 0 where
+  pub quiet : (IsAsked stop → ⊥) → new ≡ mid
+  pub calm : IsAsked stop → e1 ≡ e0
+  pub failure : (failure : Failure) → stop ≡ Run failure → IsTrue sure → Appends e0 e1 (failure_line failure)
+  pub output : stop ≡ Output → IsTrue sure → Appends e0 e1 output_line
+
+on_ok : {T E P : Type 0} (result : Result T E) → OnOk result P → IsOk result → P
+on_ok (Ok t) p ok = p
+on_ok (Err e) p ok = absurd (cc)
+
+-- what `tell` says
+pub told_of : {T E : Type 0} (sure : Bool) (mid new e0 e1 : Option (List ℕ)) (stop : Stop) (result : Result T E) → ((IsAsked stop → ⊥) → new ≡ mid) → (IsAsked stop → e1 ≡ e0)
+    → ((failure : Failure) → stop ≡ Run failure → OnOk result (Appends e0 e1 (failure_line failure))) → (stop ≡ Output → OnOk result (Appends e0 e1 output_line))
+    → ((IsAsked stop → ⊥) → IsTrue sure → IsOk result) → IsToldOf sure mid new e0 e1 stop
+told_of sure mid new e0 e1 stop result quiet calm failure output is_sure = record {
+  quiet = quiet;
+  calm = calm;
+  failure = λ f e yes. on_ok result (failure f e) (is_sure (λ h. subst IsAsked e h) yes);
+  output = λ e yes. on_ok result (output e) (is_sure (λ h. subst IsAsked e h) yes);
+}
+
+abbrev pub IsToldAfter : Bool → Option (List ℕ) → Option (List ℕ) → Option (List ℕ) → Option (List ℕ) → Result Outcome Stop → Type 0
+IsToldAfter sure mid new e0 e1 (Ok outcome) = (new ≡ mid) × (e1 ≡ e0)
+IsToldAfter sure mid new e0 e1 (Err stop) = IsToldOf sure mid new e0 e1 stop
 
 -- without one, or with a part of it; behind that something may be told
-stopped : (line : List (List ℕ)) (b0 b1 old mid new : Option (List ℕ)) (stop : Stop) (status : ℕ) → IsCarriedOut line b0 b1 old mid (Err stop) → ((IsAsked stop → ⊥) → new ≡ mid)
-    → HasStatus stop status → HasEnded line b0 b1 old new status
-stopped line b0 b1 old mid new (CommandLine error) status done told is =
+stopped : (disk : Option Disk) (so se : Bool) (line : List (List ℕ)) (b0 b1 old mid new e0 e1 : Option (List ℕ)) (stop : Stop) (status : ℕ)
+    → IsCarriedOut disk so line b0 b1 old mid (Err stop) → IsToldOf se mid new e0 e1 stop
+    → HasStatus stop status → HasEnded disk so se line (streams b0 old e0) (streams b1 new e1) status
+stopped disk so se line b0 b1 old mid new e0 e1 (CommandLine error) status done told is =
     elim (asked_or_not (kind_of error)) [
       | inl asked ↦
-          inr (inr (inr (record { asked = help_asked line error done.0.0 asked; unread = done.0.2; ends = is.asked asked })))
+          inr (inr (inr (record { asked = help_asked line error done.0.0 asked; unread = done.0.2; quiet = told.calm asked; ends = is.asked asked })))
       | inr not ↦
-          let same : new ≡ mid = told (λ h. elim h [ inl help ↦ not.0 help | inr version ↦ not.1 version ]) in
+          let same : new ≡ mid = told.quiet (λ h. elim h [ inl help ↦ not.0 help | inr version ↦ not.1 version ]) in
           let wrong : AreWrong line b0 b1 =
           record { error = error; refused = done.0.0; no_help = not.0; no_version = not.1; had_memory = done.0.1; unread = done.0.2 } in
           inr (inr (inl (record { nothing = same ∙ done.1; why = inl (wrong, is.wrong not.0 not.1) })))
     ]
-stopped line b0 b1 old mid new (Run failure) status done told is =
-    inr (inr (inl (record { nothing = told (λ h. h) ∙ done.1; why = inr (failure, done.0, is) })))
-stopped line b0 b1 old mid new Output status done told is =
-    let same : new ≡ mid = told (λ h. h) in
+stopped disk so se line b0 b1 old mid new e0 e1 (Run failure) status done told is =
+    inr (inr (inl (record { nothing = told.quiet (λ h. h) ∙ done.1; why = inr (record { failure = failure; why = done.0; told = told.failure failure refl; ends = is }) })))
+stopped disk so se line b0 b1 old mid new e0 e1 Output status done told is =
+    let same : new ≡ mid = told.quiet (λ h. h) in
     inr (inl (record {
       outcome = done.0;
       report = done.1;
       front = subst (λ (o : Option (List ℕ)). WritesCut old o (string_bytes done.0.report)) (sym same) done.2;
+      unsure = done.3;
+      told = told.output refl;
       ends = is;
     }))
 
 -- what ends the program before anything is written
-pub early : (line : List (List ℕ)) (b0 b1 old new : Option (List ℕ)) (stop : Stop) → IsEarly line b0 b1 stop → new ≡ old
-    → IsCarriedOut line b0 b1 old new (Err stop)
-early line b0 b1 old new (CommandLine error) h same = (h, same)
-early line b0 b1 old new (Run failure) h same = (h, same)
-early line b0 b1 old new Output h same = absurd h
+pub early : (disk : Option Disk) (so : Bool) (line : List (List ℕ)) (b0 b1 old new : Option (List ℕ)) (stop : Stop) → IsEarly disk line b0 b1 stop → new ≡ old
+    → IsCarriedOut disk so line b0 b1 old new (Err stop)
+early disk so line b0 b1 old new (CommandLine error) h same = (h, same)
+early disk so line b0 b1 old new (Run failure) h same = (h, same)
+early disk so line b0 b1 old new Output h same = absurd h
 
-pub early_result : (line : List (List ℕ)) (b0 b1 old new : Option (List ℕ)) (result : Result Outcome Stop) (stop : Stop) → IsErrAnd result (λ e. e ≡ stop)
-    → IsEarly line b0 b1 stop → new ≡ old → IsCarriedOut line b0 b1 old new result
-early_result line b0 b1 old new (Ok outcome) stop is h same = absurd is
-early_result line b0 b1 old new (Err e) stop is h same =
-    subst (λ (s : Stop). IsCarriedOut line b0 b1 old new (Err s)) (sym is) (early line b0 b1 old new stop h same)
+pub early_result : (disk : Option Disk) (so : Bool) (line : List (List ℕ)) (b0 b1 old new : Option (List ℕ)) (result : Result Outcome Stop) (stop : Stop)
+    → IsErrAnd result (λ e. e ≡ stop) → IsEarly disk line b0 b1 stop → new ≡ old → IsCarriedOut disk so line b0 b1 old new result
+early_result disk so line b0 b1 old new (Ok outcome) stop is h same = absurd is
+early_result disk so line b0 b1 old new (Err e) stop is h same =
+    subst (λ (s : Stop). IsCarriedOut disk so line b0 b1 old new (Err s)) (sym is) (early disk so line b0 b1 old new stop h same)
+
+not_sure : (so : Bool) {T E : Type 0} (e : E) → (IsTrue so → IsOk (the (Result T E) (Err e))) → so ≡ false
+not_sure false e sure = refl
+not_sure true e sure = absurd (let no = sure refl in cc)
 
 -- a report that is written
-pub written : (line : List (List ℕ)) (b0 b1 old new : Option (List ℕ)) (outcome : Outcome) (result : Result Outcome Stop) → IsReport line b0 b1 outcome
+pub written : (disk : Option Disk) (so : Bool) (line : List (List ℕ)) (b0 b1 old new : Option (List ℕ)) (outcome : Outcome) (result : Result Outcome Stop) → IsReport disk line b0 b1 outcome
     → OnOk result (Appends old new (string_bytes outcome.report)) → IfOk result (λ w. w ≡ outcome) → OnErr result (WritesCut old new (string_bytes outcome.report))
-    → IfErr result (λ stop. stop ≡ Output) → IsCarriedOut line b0 b1 old new result
-written line b0 b1 old new outcome (Ok w) report whole same cut lost =
-    subst (λ (o : Outcome). IsReport line b0 b1 o × Appends old new (string_bytes o.report)) (sym same) (report, whole)
-written line b0 b1 old new outcome (Err stop) report whole same cut lost =
-    subst (λ (s : Stop). IsCarriedOut line b0 b1 old new (Err s)) (sym lost) (outcome, report, cut)
+    → IfErr result (λ stop. stop ≡ Output) → (IsTrue so → IsOk result) → IsCarriedOut disk so line b0 b1 old new result
+written disk so line b0 b1 old new outcome (Ok w) report whole same cut lost sure =
+    subst (λ (o : Outcome). IsReport disk line b0 b1 o × Appends old new (string_bytes o.report)) (sym same) (report, whole)
+written disk so line b0 b1 old new outcome (Err stop) report whole same cut lost sure =
+    subst (λ (s : Stop). IsCarriedOut disk so line b0 b1 old new (Err s)) (sym lost) (outcome, report, cut, not_sure so stop sure)
 
 -- with a report and nothing to tell, or without one
-pub ended : (line : List (List ℕ)) (b0 b1 old mid new : Option (List ℕ)) (end : Result Outcome Stop) (status : ℕ) → IsCarriedOut line b0 b1 old mid end → IsTold mid new end → IsStatusOf end status
-    → HasEnded line b0 b1 old new status
-ended line b0 b1 old mid new (Ok outcome) status done told is =
+pub ended : (disk : Option Disk) (so se : Bool) (line : List (List ℕ)) (b0 b1 old mid new e0 e1 : Option (List ℕ)) (end : Result Outcome Stop) (status : ℕ)
+    → IsCarriedOut disk so line b0 b1 old mid end → IsToldAfter se mid new e0 e1 end → IsStatusOf end status
+    → HasEnded disk so se line (streams b0 old e0) (streams b1 new e1) status
+ended disk so se line b0 b1 old mid new e0 e1 (Ok outcome) status done told is =
     inl (record {
       outcome = outcome;
       report = done.0;
-      written = subst (λ (o : Option (List ℕ)). Appends old o (string_bytes outcome.report)) (sym told) done.1;
+      written = subst (λ (o : Option (List ℕ)). Appends old o (string_bytes outcome.report)) (sym told.0) done.1;
+      quiet = told.1;
       ends = is;
     })
-ended line b0 b1 old mid new (Err stop) status done told is = stopped line b0 b1 old mid new stop status done told is
+ended disk so se line b0 b1 old mid new e0 e1 (Err stop) status done told is = stopped disk so se line b0 b1 old mid new e0 e1 stop status done told is
 
 -- ---- why there is no report
 
-module _ (line : List (List ℕ)) (b0 b1 : Option (List ℕ)) where
+module _ (disk : Option Disk) (line : List (List ℕ)) (b0 b1 : Option (List ℕ)) where
   pub run_failed : (options : RunOptions) (folders : List (List ℕ)) (failure : Failure) → AskFor line (run options folders)
-      → IsRunFailure (settings_of options) folders b0 b1 failure → IsEarly line b0 b1 (Run failure)
+      → IsRunFailure disk (settings_of options) folders b0 b1 failure → IsEarly disk line b0 b1 (Run failure)
   run_failed options folders failure asked failed = inl (record { options = options; folders = folders; asked = asked; failed = failed })
 
-  pub check_failed : (names : List (List ℕ)) (failure : Failure) → AskFor line (check names) → IsNamedFailure names failure → b1 ≡ b0
-      → IsEarly line b0 b1 (Run failure)
+  pub check_failed : (names : List (List ℕ)) (failure : Failure) → AskFor line (check names) → IsNamedFailure disk names failure → b1 ≡ b0
+      → IsEarly disk line b0 b1 (Run failure)
   check_failed names failure asked failed unread = inr (inl (record { names = names; asked = asked; failed = failed; unread = unread }))

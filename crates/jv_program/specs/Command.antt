@@ -1,19 +1,21 @@
 -- How the program ends, and what it has written then (own).
-use Rattle.std.specs.Prelude.{◌≡◌, ◌≢◌, ◌⊎◌, ℕ, List, Option, Result, Ok, Err, string_bytes}
+use Rattle.std.specs.Prelude.{◌≡◌, ◌≢◌, ◌⊎◌, ℕ, Bool, false, IsTrue, List, Option, string_bytes}
 use Rattle.std.specs.Io.KnownBytes.{Appends}
 use Rattle.clap.specs.Values.{kind_of}
 use Rattle.clap.specs.declared.error.Error.{Error}
 use Rattle.clap.specs.declared.error.kind.ErrorKind.TheVariants as kinds
+use Rattle.jv_program_base.specs.Disk.{Disk}
 use Rattle.jv_program_check.specs.Named.{IsCheckedAs, IsNamedFailure}
 use Rattle.jv_program_base.specs.declared.failure.Failure.{Failure}
 use Rattle.jv_program_base.specs.declared.failure.Failure.TheVariants.{OutOfMemory}
 use Rattle.jv_program_base.specs.declared.outcome.Outcome.{Outcome}
 use Rattle.jv_program_run.specs.declared.settings.RunSettings.{RunSettings}
-use Rattle.jv_program_base.specs.Failure.{failure_status}
+use Rattle.jv_program_base.specs.Failure.{failure_line, failure_status}
 use Rattle.jv_program_run.specs.Named.{AreTaken, IsRunAs, IsRunFailure}
 use Rattle.jv_program_words.specs.declared.asked.RunOptions.{RunOptions}
 use Rattle.jv_program_words.specs.Settings.{AskFor, AskForHelp, AreRefused}
 use Rattle.jv_program_words.specs.Settings.Asked.{run, check}
+use Rattle.jv_program.specs.Status.{output_line}
 use Rattle.jv_program.specs.Written.{WritesCut}
 
 -- the settings with these options
@@ -37,43 +39,44 @@ IsBegun line =
 
 -- The words ask to run the guests of folders, and the report is on these. Of input with these bytes before and after, what was read was fed
 -- to the one guest that is fed.
-pub record IsRunReport (line : List (List ℕ)) (before after : Option (List ℕ)) (outcome : Outcome) : Type 0 where
+pub record IsRunReport (disk : Option Disk) (line : List (List ℕ)) (before after : Option (List ℕ)) (outcome : Outcome) : Type 0 where
   pub options : RunOptions
   pub folders : List (List ℕ)
   pub asked : AskFor line (run options folders)
-  pub ran : IsRunAs (settings_of options) folders before after outcome
+  pub ran : IsRunAs disk (settings_of options) folders before after outcome
 
 -- The words ask to check class files, and the report is on these. Nothing is read of the input.
-pub record IsCheckReport (line : List (List ℕ)) (before after : Option (List ℕ)) (outcome : Outcome) : Type 0 where
+pub record IsCheckReport (disk : Option Disk) (line : List (List ℕ)) (before after : Option (List ℕ)) (outcome : Outcome) : Type 0 where
   pub names : List (List ℕ)
   pub asked : AskFor line (check names)
-  pub checked : IsCheckedAs names outcome
+  pub checked : IsCheckedAs disk names outcome
   pub unread : after ≡ before
 
 -- the report is what the words ask for
-abbrev pub IsReport : (line : List (List ℕ)) → (before after : Option (List ℕ)) → Outcome → Type 0
-IsReport line before after outcome = IsRunReport line before after outcome ⊎ IsCheckReport line before after outcome
+abbrev pub IsReport : (disk : Option Disk) → (line : List (List ℕ)) → (before after : Option (List ℕ)) → Outcome → Type 0
+IsReport disk line before after outcome = IsRunReport disk line before after outcome ⊎ IsCheckReport disk line before after outcome
 
 -- ---- no report
 
 -- the words ask to run the guests of folders, and this is why there is no report on them
-pub record IsRunFailed (line : List (List ℕ)) (before after : Option (List ℕ)) (failure : Failure) : Type 0 where
+pub record IsRunFailed (disk : Option Disk) (line : List (List ℕ)) (before after : Option (List ℕ)) (failure : Failure) : Type 0 where
   pub options : RunOptions
   pub folders : List (List ℕ)
   pub asked : AskFor line (run options folders)
-  pub failed : IsRunFailure (settings_of options) folders before after failure
+  pub failed : IsRunFailure disk (settings_of options) folders before after failure
 
 -- or to check class files
-pub record IsCheckFailed (line : List (List ℕ)) (before after : Option (List ℕ)) (failure : Failure) : Type 0 where
+pub record IsCheckFailed (disk : Option Disk) (line : List (List ℕ)) (before after : Option (List ℕ)) (failure : Failure) : Type 0 where
   pub names : List (List ℕ)
   pub asked : AskFor line (check names)
-  pub failed : IsNamedFailure names failure
+  pub failed : IsNamedFailure disk names failure
   pub unread : after ≡ before
 
 -- Why there is no report on what the words ask for; or the program's memory was refused while the words were read.
-abbrev pub IsFailure : (line : List (List ℕ)) → (before after : Option (List ℕ)) → Failure → Type 0
-IsFailure line before after failure =
-    IsRunFailed line before after failure ⊎ (IsCheckFailed line before after failure ⊎ ((failure ≡ OutOfMemory) × (after ≡ before)))
+abbrev pub IsFailure : (disk : Option Disk) → (line : List (List ℕ)) → (before after : Option (List ℕ)) → Failure → Type 0
+IsFailure disk line before after failure =
+    IsRunFailed disk line before after failure
+    ⊎ (IsCheckFailed disk line before after failure ⊎ ((failure ≡ OutOfMemory) × (after ≡ before)))
 
 -- The words are refused, and do not ask for help or the version.
 pub record AreWrong (line : List (List ℕ)) (before after : Option (List ℕ)) : Type 0 where
@@ -86,37 +89,62 @@ pub record AreWrong (line : List (List ℕ)) (before after : Option (List ℕ)) 
 
 -- ---- ends
 
--- a report that was written whole, behind what was on the output
-pub record IsReported (line : List (List ℕ)) (before after old new : Option (List ℕ)) (status : ℕ) : Type 0 where
+-- what is known of the standard streams: what the input still has, and what was written with the output and with the errors
+pub record Streams : Type 0 where
+  pub input : Option (List ℕ)
+  pub output : Option (List ℕ)
+  pub errors : Option (List ℕ)
+
+abbrev pub streams : (input output errors : Option (List ℕ)) → Streams
+streams input output errors = record { input = input; output = output; errors = errors }
+
+-- a line is told with the errors, where no write to them fails
+abbrev pub IsTold : (sure : Bool) → (before after : Streams) → (line : List ℕ) → Type 0
+IsTold sure before after line = IsTrue sure → Appends before.errors after.errors line
+
+-- a report that was written whole, behind what was on the output; nothing is told
+pub record IsReported (disk : Option Disk) (line : List (List ℕ)) (before after : Streams) (status : ℕ) : Type 0 where
   pub outcome : Outcome
-  pub report : IsReport line before after outcome
-  pub written : Appends old new (string_bytes outcome.report)
+  pub report : IsReport disk line before.input after.input outcome
+  pub written : Appends before.output after.output (string_bytes outcome.report)
+  pub quiet : after.errors ≡ before.errors
   pub ends : status ≡ outcome.status
 
--- a report that was cut: its front was written, and nothing else
-pub record IsCut (line : List (List ℕ)) (before after old new : Option (List ℕ)) (status : ℕ) : Type 0 where
+-- a report that was cut, where a write may fail: its front was written, and nothing else, and that is told
+pub record IsCut (disk : Option Disk) (sure_output sure_errors : Bool) (line : List (List ℕ)) (before after : Streams) (status : ℕ)
+    : Type 0 where
   pub outcome : Outcome
-  pub report : IsReport line before after outcome
-  pub front : WritesCut old new (string_bytes outcome.report)
+  pub report : IsReport disk line before.input after.input outcome
+  pub front : WritesCut before.output after.output (string_bytes outcome.report)
+  pub unsure : sure_output ≡ false
+  pub told : IsTold sure_errors before after output_line
   pub ends : status ≡ 6
 
--- no report, and nothing on the output: the words are wrong, with status 2, or there is a failure, with its status
-pub record IsFailed (line : List (List ℕ)) (before after old new : Option (List ℕ)) (status : ℕ) : Type 0 where
-  pub nothing : new ≡ old
-  pub why :
-      (AreWrong line before after × (status ≡ 2))
-      ⊎ ((failure : Failure) × IsFailure line before after failure × (status ≡ failure_status failure))
+-- there is a failure, which is told, and its status
+pub record HasFailed (disk : Option Disk) (sure_errors : Bool) (line : List (List ℕ)) (before after : Streams) (status : ℕ) : Type 0 where
+  pub failure : Failure
+  pub why : IsFailure disk line before.input after.input failure
+  pub told : IsTold sure_errors before after (failure_line failure)
+  pub ends : status ≡ failure_status failure
 
--- help, or the version, and nothing is read
-pub record IsHelped (line : List (List ℕ)) (before after : Option (List ℕ)) (status : ℕ) : Type 0 where
+-- no report, and nothing on the output: the words are wrong, with status 2, or there is a failure
+pub record IsFailed (disk : Option Disk) (sure_errors : Bool) (line : List (List ℕ)) (before after : Streams) (status : ℕ) : Type 0 where
+  pub nothing : after.output ≡ before.output
+  pub why : (AreWrong line before.input after.input × (status ≡ 2)) ⊎ HasFailed disk sure_errors line before after status
+
+-- help, or the version, and nothing is read or told with the errors
+pub record IsHelped (line : List (List ℕ)) (before after : Streams) (status : ℕ) : Type 0 where
   pub asked : AskForHelp line
-  pub unread : after ≡ before
+  pub unread : after.input ≡ before.input
+  pub quiet : after.errors ≡ before.errors
   pub ends : status ≡ 0
 
--- How the program ends on the words of a line, with input that has these bytes before and after and an output that has these: with the
+-- How the program ends on the words of a line, with these files and folders, and streams that were so before and are so after: with the
 -- report that the words ask for, and its status; with 6, and the front of that report; with nothing on the output, and 2 to 4 by the
--- reason; or with 0, where the words ask for help or for the version.
-abbrev pub HasEnded : (line : List (List ℕ)) → (before after old new : Option (List ℕ)) → (status : ℕ) → Type 0
-HasEnded line before after old new status =
-    IsReported line before after old new status
-    ⊎ (IsCut line before after old new status ⊎ (IsFailed line before after old new status ⊎ IsHelped line before after status))
+-- reason; or with 0, where the words ask for help or for the version. Of the output and of the errors it is said whether no write fails.
+abbrev pub HasEnded :
+    (disk : Option Disk) → (sure_output sure_errors : Bool) → (line : List (List ℕ)) → (before after : Streams) → (status : ℕ) → Type 0
+HasEnded disk sure_output sure_errors line before after status =
+    IsReported disk line before after status
+    ⊎ (IsCut disk sure_output sure_errors line before after status
+    ⊎ (IsFailed disk sure_errors line before after status ⊎ IsHelped line before after status))

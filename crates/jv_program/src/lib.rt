@@ -4,10 +4,12 @@
 
 mod program;
 mod progress;
+mod sink;
 mod stop;
 mod written;
 
 pub use program::{command, command_watched, tell};
 pub use progress::ProgressLine;
+pub use sink::{Lost, Sink, Stream};
 pub use stop::{Stop, status_of};
 pub use written::write_report;

@@ -1,6 +1,7 @@
 //! How the program ends.
 ghost use Rattle.std.specs.Prelude.{◌≡◌, ◌≢◌, ℕ, List, Option};
 ghost use Rattle.clap.specs.Values.{kind_of};
+ghost use Rattle.jv_program_base.specs.Disk.{Disk};
 ghost use Rattle.jv_program_words.specs.Settings.{AreRefused};
 ghost use Rattle.jv_program.specs.Inside.Stops.{IsEarly};
 ghost use Rattle.jv_program.specs.Status.{IsStatusOf};
@@ -39,7 +40,8 @@ impl Stop {
 
 /// What an error of the command line means.
 pub(crate) fn stop_of(error: clap::Error) -> Stop
-    ensures early { (line : List (List ℕ)) (input : Option (List ℕ)) → AreRefused line error → IsEarly line input input result }
+    ensures early { (disk : Option Disk) (line : List (List ℕ)) (input : Option (List ℕ))
+        → AreRefused line error → IsEarly disk line input input result }
     ensures memory { kind_of error ≡ ErrorKind.OutOfMemory → result ≡ Run OutOfMemory }
     ensures other { kind_of error ≢ ErrorKind.OutOfMemory → result ≡ CommandLine error }
 {

@@ -1,21 +1,22 @@
 //! The report, as it is written on standard output.
-ghost use Rattle.std.specs.Prelude.{◌≡◌, IfErr, IfOk, OnErr, OnOk, string_bytes};
+ghost use Rattle.std.specs.Prelude.{◌≡◌, IfErr, IfOk, IsOk, IsTrue, OnErr, OnOk, string_bytes};
 ghost use Rattle.std.specs.Io.KnownBytes.{Appends};
 ghost use Rattle.jv_program.specs.Written.{WritesCut};
 ghost use Rattle.jv_program.specs.declared.stop.Stop.TheVariants.{Output};
 
+use crate::sink::{Lost, Sink};
 use crate::stop::Stop;
 use jv_program_base::Outcome;
 use std::io;
 use std::io::{Error, ErrorKind, Write};
 
-/// Writes a text, or fails where a write fails or takes none of it; what was written is then a front of the
-/// text, and not all of it.
-fn write_text<W: Write>(to: &mut W, text: &[u8]) -> io::Result<()>
-    ensures whole { OnOk result (Appends (W.contents to.old) (W.contents to.new) text.now) }
-    ensures cut { OnErr result (WritesCut (W.contents to.old) (W.contents to.new) text.now) }
+/// Writes bytes, or fails where a write fails or takes none of it; what was written is then a front of
+/// them, and not all.
+pub(crate) fn write_bytes<W: Write>(to: &mut W, bytes: &[u8]) -> io::Result<()>
+    ensures whole { OnOk result (Appends (W.contents to.old) (W.contents to.new) bytes.now) }
+    ensures cut { OnErr result (WritesCut (W.contents to.old) (W.contents to.new) bytes.now) }
 {
-    let mut rest = text;
+    let mut rest = bytes;
     while !rest.is_empty() {
         let count = to.write(rest)?;
         if count == 0 {
@@ -31,14 +32,15 @@ fn write_text<W: Write>(to: &mut W, text: &[u8]) -> io::Result<()>
 /// # Errors
 ///
 /// `Output` where a write fails; what was written is then a front of the report, and not all of it.
-pub fn write_report<W: Write>(to: &mut W, outcome: Outcome) -> Result<Outcome, Stop>
-    ensures whole { OnOk result (Appends (W.contents to.old) (W.contents to.new) (string_bytes outcome.report)) }
+pub fn write_report<O: Sink>(to: &mut O, outcome: Outcome) -> Result<Outcome, Stop>
+    ensures whole { OnOk result (Appends (O.contents to.old) (O.contents to.new) (string_bytes outcome.report)) }
     ensures same { IfOk result (λ written. written ≡ outcome) }
-    ensures cut { OnErr result (WritesCut (W.contents to.old) (W.contents to.new) (string_bytes outcome.report)) }
+    ensures cut { OnErr result (WritesCut (O.contents to.old) (O.contents to.new) (string_bytes outcome.report)) }
     ensures lost { IfErr result (λ stop. stop ≡ Output) }
+    ensures sure { IsTrue O.SURE → IsOk result }
 {
-    match write_text(to, outcome.report.as_bytes()) {
+    match to.write(outcome.report.as_bytes()) {
         Ok(()) => Ok(outcome),
-        Err(_) => Err(Stop::Output),
+        Err(Lost) => Err(Stop::Output),
     }
 }

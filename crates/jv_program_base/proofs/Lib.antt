@@ -1,3 +1,4 @@
 pub mod ClassFileNames
 pub mod NotRead
+pub mod Opened
 pub mod Places

@@ -9,7 +9,7 @@ use Rattle.jv_limits.specs.Bytes.{bytes_of}
 use Rattle.jv_program_base.specs.Failure.{IsNotRead, IsOneNotRead, IsReadFile, IsUnread}
 use Rattle.jv_program_base.specs.Inside.Reading.{IsOneUnreadIn}
 use Rattle.jv_program_base.specs.Names.{is_class_file}
-use Rattle.jv_program_base.proofs.Places.{found_in_map, item_at, some_same, within}
+use Rattle.jv_program_base.proofs.Places.{found_in_map, some_same, within}
 
 -- ---- a file
 

@@ -1,3 +1,4 @@
+pub mod Disk
 pub mod Escape
 pub mod Failure
 pub mod Folder

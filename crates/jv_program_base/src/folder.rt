@@ -1,10 +1,12 @@
 //! What a folder holds of a guest.
-ghost use Rattle.std.specs.Prelude.{◌≡◌, ◌≢◌, ◌≤◌, ◌+◌, ◌<◌, ◌^◌, [], ◌∷◌, ◌++◌, ℕ, All, IfErr, IfOk, List, codes, false, map, vec_len};
+ghost use Rattle.std.specs.Prelude.{◌≡◌, ◌≢◌, ◌≤◌, ◌+◌, ◌<◌, ◌^◌, [], ◌∷◌, ◌++◌, ℕ, All, IfErr, IfOk, List, codes, false, true, map, string_bytes, vec_len};
 ghost use Rattle.std.specs.IoError.{error_kind};
 ghost use Rattle.jv_limits.specs.Bytes.{bytes_of};
 ghost use Rattle.jv_program_base.specs.Failure.{IsNotRead, IsUnread};
 ghost use Rattle.jv_program_base.specs.Inside.Reading.{IsOneUnreadIn};
-ghost use Rattle.jv_program_base.specs.Folder.{AreClassFilesOf, IsFolderOf, IsFolderRead, IsReadUpToLimit, file_name};
+ghost use Rattle.jv_program_base.specs.Disk.{IsListedAt, IsReadAt};
+ghost use Rattle.jv_program_base.specs.Folder.{AreClassFilesOf, IsFileIn, IsFolderOf, IsFolderRead, IsReadUpToLimit, file_name};
+ghost use Rattle.jv_program_base.specs.Folder.{folder_path, path_in};
 ghost use Rattle.jv_program_base.specs.Names.{is_listed_name};
 
 use crate::failure::Failure;
@@ -48,7 +50,7 @@ pub struct Folder<'a> {
 
 /// The path of a file in a folder.
 fn path_in(alloc: Global, folder: &str, name: &[u8]) -> Result<Vec<u8>, AllocError>
-    ensures { IfOk result (λ path. path.items ≡ folder.now ++ 47 ∷ name.now) }
+    ensures { IfOk result (λ path. path.items ≡ path_in folder.now name.now) }
 {
     let mut path = Vec::from_slice(alloc, folder.as_bytes())?;
     path.push(b'/')?;
@@ -77,7 +79,9 @@ fn bytes_at<F: Folders>(
     limit: usize,
 ) -> io::Result<Vec<u8>>
     requires { limit + 2 < 2 ^ 64 }
-    ensures { IfOk result (λ bytes. vec_len bytes ≤ limit + 1) }
+    ensures most { IfOk result (λ bytes. vec_len bytes ≤ limit + 1) }
+    ensures read { IfOk result (λ bytes. IsReadAt (F.disk folders.old) path.now limit bytes.items) }
+    ensures disk { F.disk folders.new ≡ F.disk folders.old }
 {
     let Ok(path) = std::str::from_utf8(path) else {
         return Err(Error::from(ErrorKind::InvalidFilename));
@@ -96,7 +100,9 @@ fn read_file<F: Folders>(
 ) -> Result<Vec<u8>, Failure>
     requires { limit + 2 < 2 ^ 64 }
     ensures most { IfOk result (λ bytes. vec_len bytes ≤ limit + 1) }
-    ensures err { IfErr result (IsUnread (folder.now ++ 47 ∷ name.now)) }
+    ensures read { IfOk result (λ bytes. IsReadAt (F.disk folders.old) (path_in folder.now name.now) limit bytes.items) }
+    ensures err { IfErr result (IsUnread (path_in folder.now name.now)) }
+    ensures disk { F.disk folders.new ≡ F.disk folders.old }
 {
     let path = path_in(alloc, folder, name)?;
     match bytes_at(alloc, folders, path.as_slice(), limit) {
@@ -105,12 +111,23 @@ fn read_file<F: Folders>(
     }
 }
 
-/// The listing of a folder: its names, each ended by a NUL.
-fn listing_at<F: Folders>(alloc: Global, folders: &mut F, folder: &str) -> io::Result<Vec<u8>> {
+/// The path at which a folder is opened.
+fn folder_path(alloc: Global, folder: &str) -> Result<String, AllocError>
+    ensures { IfOk result (λ path. string_bytes path ≡ folder_path folder.now) }
+{
     let mut path = String::from_str(alloc, folder)?;
     if !folder.is_empty() {
         path.push('/')?;
     }
+    Ok(path)
+}
+
+/// The listing of a folder: its names, each ended by a NUL.
+fn listing_at<F: Folders>(alloc: Global, folders: &mut F, folder: &str) -> io::Result<Vec<u8>>
+    ensures listed { IfOk result (λ listing. IsListedAt (F.disk folders.old) (folder_path folder.now) 4294967296 listing.items) }
+    ensures disk { F.disk folders.new ≡ F.disk folders.old }
+{
+    let path = folder_path(alloc, folder)?;
     let mut listing = folders.open_folder(path.as_str())?;
     read_past_limit(alloc, &mut listing, LISTING_LIMIT)
 }
@@ -121,7 +138,9 @@ fn read_listing<F: Folders>(
     folders: &mut F,
     folder: &str,
 ) -> Result<Vec<u8>, Failure>
+    ensures listed { IfOk result (λ listing. IsListedAt (F.disk folders.old) (folder_path folder.now) 4294967296 listing.items) }
     ensures err { IfErr result (IsUnread folder.now) }
+    ensures disk { F.disk folders.new ≡ F.disk folders.old }
 {
     match listing_at(alloc, folders, folder) {
         Ok(listing) => Ok(listing),
@@ -141,7 +160,9 @@ fn read_class_file<F: Folders>(
 ) -> Result<NamedFile, Failure>
     ensures named { IfOk result (λ file. file_name file ≡ name.now) }
     ensures most { IfOk result IsReadUpToLimit }
-    ensures err { IfErr result (IsUnread (folder.now ++ 47 ∷ name.now)) }
+    ensures read { IfOk result (IsFileIn (F.disk folders.old) folder.now) }
+    ensures err { IfErr result (IsUnread (path_in folder.now name.now)) }
+    ensures disk { F.disk folders.new ≡ F.disk folders.old }
 {
     let bytes = read_file(alloc, folders, folder, name, CLASS_FILE_LIMIT)?;
     let name = Vec::from_slice(alloc, name)?;
@@ -159,7 +180,9 @@ pub fn read_class<F: Folders>(
     path: &str,
 ) -> Result<Vec<u8>, Failure>
     ensures most { IfOk result (λ bytes. vec_len bytes ≤ 4194305) }
+    ensures read { IfOk result (λ bytes. IsReadAt (F.disk folders.old) path.now 4194304 bytes.items) }
     ensures err { IfErr result (IsUnread path.now) }
+    ensures disk { F.disk folders.new ≡ F.disk folders.old }
 {
     match bytes_at(alloc, folders, path.as_bytes(), CLASS_FILE_LIMIT) {
         Ok(bytes) => Ok(bytes),
@@ -179,7 +202,9 @@ fn read_class_files<F: Folders>(
 ) -> Result<Vec<NamedFile>, Failure>
     ensures named { IfOk result (λ files. map file_name files.items ≡ map bytes_of names.now) }
     ensures most { IfOk result (λ files. All IsReadUpToLimit files.items) }
+    ensures read { IfOk result (λ files. All (IsFileIn (F.disk folders.old) folder.now) files.items) }
     ensures err { IfErr result (IsOneUnreadIn folder.now (map bytes_of names.now)) }
+    ensures disk { F.disk folders.new ≡ F.disk folders.old }
 {
     let mut class_files = Vec::new(alloc);
     for name in names {
@@ -197,7 +222,9 @@ fn read_class_files_among<F: Folders>(
     names: &[&[u8]],
 ) -> Result<Vec<NamedFile>, Failure>
     ensures ok { IfOk result (λ files. AreClassFilesOf (map bytes_of names.now) files.items) }
+    ensures read { IfOk result (λ files. All (IsFileIn (F.disk folders.old) folder.now) files.items) }
     ensures err { IfErr result (IsNotRead folder.now) }
+    ensures disk { F.disk folders.new ≡ F.disk folders.old }
 {
     let class_names = class_file_names(alloc, names)?;
     read_class_files(alloc, folders, folder, class_names.as_slice())
@@ -206,7 +233,9 @@ fn read_class_files_among<F: Folders>(
 /// The bytes of the file `main`; one that is longer than the limit can't be read.
 fn read_main<F: Folders>(alloc: Global, folders: &mut F, folder: &str) -> Result<Vec<u8>, Failure>
     ensures most { IfOk result (λ main. vec_len main ≤ 4194304) }
+    ensures read { IfOk result (λ main. IsReadAt (F.disk folders.old) (path_in folder.now (codes "main")) 4194304 main.items) }
     ensures err { IfErr result (IsNotRead folder.now) }
+    ensures disk { F.disk folders.new ≡ F.disk folders.old }
 {
     let main = read_file(alloc, folders, folder, b"main", CLASS_FILE_LIMIT)?;
     if main.len() > CLASS_FILE_LIMIT {
@@ -223,9 +252,12 @@ fn read_input<F: Folders>(
     names: &[&[u8]],
 ) -> Result<Vec<u8>, Failure>
     ensures most { IfOk result (λ input. vec_len input ≤ 16777217) }
+    ensures read { is_listed_name (codes "input") (map bytes_of names.now) ≡ true
+        → IfOk result (λ input. IsReadAt (F.disk folders.old) (path_in folder.now (codes "input")) 16777216 input.items) }
     ensures absent { is_listed_name (codes "input") (map bytes_of names.now) ≡ false
         → IfOk result (λ input. input.items ≡ []) }
     ensures err { IfErr result (IsNotRead folder.now) }
+    ensures disk { F.disk folders.new ≡ F.disk folders.old }
 {
     if is_listed_name(names, b"input") {
         read_file(alloc, folders, folder, b"input", INPUT_LIMIT)
@@ -242,8 +274,9 @@ fn read_files<'a, F: Folders>(
     names: &[&[u8]],
 ) -> Result<Folder<'a>, Failure>
     ensures word { IfOk result (λ found. found.word.now ≡ word.now) }
-    ensures files { IfOk result (λ found. IsFolderOf (map bytes_of names.now) found) }
+    ensures files { IfOk result (IsFolderOf (F.disk folders.old) word.now (map bytes_of names.now)) }
     ensures err { IfErr result (IsNotRead word.now) }
+    ensures disk { F.disk folders.new ≡ F.disk folders.old }
 {
     let class_files = read_class_files_among(alloc, folders, word, names)?;
     let main = read_main(alloc, folders, word)?;
@@ -263,8 +296,9 @@ pub fn read_folder<'a, F: Folders>(
     folders: &mut F,
     word: &'a str,
 ) -> Result<Folder<'a>, Failure>
-    ensures ok { IfOk result (IsFolderRead word.now) }
+    ensures ok { IfOk result (IsFolderRead (F.disk folders.old) word.now) }
     ensures err { IfErr result (IsNotRead word.now) }
+    ensures disk { F.disk folders.new ≡ F.disk folders.old }
 {
     let listing = read_listing(alloc, folders, word)?;
     let names = names_in(alloc, listing.as_slice())?;

@@ -2,7 +2,7 @@
 ghost use Rattle.std.specs.Prelude.{◌≡◌, IfErr, IfOk, length, map};
 ghost use Rattle.jv_limits.specs.Bytes.{bytes_of};
 ghost use Rattle.jv_program_check.specs.Check.{IsChecked};
-ghost use Rattle.jv_program_check.specs.Named.{IsCheckedAs, IsNamedFailure, IsOneUnread, IsReadFailure};
+ghost use Rattle.jv_program_check.specs.Named.{AreFilesAt, IsCheckedAs, IsNamedFailure, IsOneUnread, IsReadFailure};
 
 use crate::checking::check_files;
 use jv_program_base::{Failure, Folders, Outcome, read_class};
@@ -15,7 +15,9 @@ fn read_classes<F: Folders>(
     folders: &mut F,
     names: &[&str],
 ) -> Result<Vec<Vec<u8>>, Failure>
-    ensures ok { IfOk result (λ files. length files.items ≡ length names.now) }
+    ensures ok { IfOk result (λ files.
+        AreFilesAt (F.disk folders.old) (map bytes_of names.now) (map (λ file. file.items) files.items)) }
+    ensures count { IfOk result (λ files. length files.items ≡ length names.now) }
     ensures err { IfErr result (IsOneUnread (map bytes_of names.now)) }
 {
     let mut files = Vec::new(alloc);
@@ -77,8 +79,8 @@ pub fn check_named<F: Folders>(
     names: &[&str],
     folders: &mut F,
 ) -> Result<Outcome, Failure>
-    ensures ok { IfOk result (IsCheckedAs (map bytes_of names.now)) }
-    ensures err { IfErr result (IsNamedFailure (map bytes_of names.now)) }
+    ensures ok { IfOk result (IsCheckedAs (F.disk folders.old) (map bytes_of names.now)) }
+    ensures err { IfErr result (IsNamedFailure (F.disk folders.old) (map bytes_of names.now)) }
 {
     let files = read_classes(alloc, folders, names)?;
     check_read(alloc, state, names, files.as_slice())

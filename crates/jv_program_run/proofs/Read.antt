@@ -1,15 +1,16 @@
 -- Folders that are read one behind the other.
-use Rattle.std.proofs.Common.{◌≡◌, ℕ, ◌+◌, List, [], ◌∷◌, ◌++◌, length, take, Bor, Some, sym, ap, subst, ◌∙◌, inl, inr, arith}
+use Rattle.std.proofs.Common.{◌≡◌, ℕ, ◌+◌, List, [], ◌∷◌, ◌++◌, length, take, Bor, Option, Some, sym, ap, subst, ◌∙◌, inl, inr, arith}
 use Rattle.std.specs.Prelude.{map, slice_get}
 use Rattle.jv_program_base.specs.declared.folder.Folder.{Folder}
 use Rattle.jv_limits.specs.Bytes.{bytes_of}
+use Rattle.jv_program_base.specs.Disk.{Disk}
 use Rattle.jv_program_base.specs.Folder.{IsFolderRead}
 use Rattle.jv_program_run.specs.Named.{AreFoldersOf}
 use Rattle.jv_program_base.proofs.Places.{length-more, map-take-more, pushed}
 
-folders-more : (words : List (List ℕ)) (folders : List Folder) (word : List ℕ) (folder : Folder) → AreFoldersOf words folders → IsFolderRead word folder
-    → AreFoldersOf (words ++ word ∷ []) (folders ++ folder ∷ [])
-folders-more words folders word folder before last =
+folders-more : (disk : Option Disk) (words : List (List ℕ)) (folders : List Folder) (word : List ℕ) (folder : Folder) → AreFoldersOf disk words folders → IsFolderRead disk word folder
+    → AreFoldersOf disk (words ++ word ∷ []) (folders ++ folder ∷ [])
+folders-more disk words folders word folder before last =
     let same : length folders ≡ length words = before.count in
     record {
       count = length-more folders folder ∙ ap (λ (n : ℕ). n + 1) before.count ∙ sym (length-more words word);
@@ -20,16 +21,16 @@ folders-more words folders word folder before last =
         ]
         | inr h ↦ elim (pushed folders folder place f found) [
           | inl i ↦ absurd (let lt = i.0 in let at = h.0 in omega (arith, same, lt, at))
-          | inr i ↦ subst (λ (x : List ℕ). IsFolderRead x f) (sym h.1) (subst (λ (x : Folder). IsFolderRead word x) (sym i.1) last)
+          | inr i ↦ subst (λ (x : List ℕ). IsFolderRead disk x f) (sym h.1) (subst (λ (x : Folder). IsFolderRead disk word x) (sym i.1) last)
         ]
       ];
     }
 
 -- one folder more, that of the next word
-pub next_folder : (words : List (Bor (List ℕ))) (k : ℕ) (word : Bor (List ℕ)) (folders : List Folder) (folder : Folder) (new : List Folder) → slice_get words k ≡ Some word
-    → new ≡ folders ++ folder ∷ [] → AreFoldersOf (map bytes_of (take k words)) folders → IsFolderRead word.now folder
-    → AreFoldersOf (map bytes_of (take (k + 1) words)) new
-next_folder words k word folders folder new found after before last =
-    subst (λ (ws : List (List ℕ)). AreFoldersOf ws new) (sym (map-take-more bytes_of words k word found))
-    (subst (λ (fs : List Folder). AreFoldersOf (map bytes_of (take k words) ++ word.now ∷ []) fs) (sym after)
-    (folders-more (map bytes_of (take k words)) folders word.now folder before last))
+pub next_folder : (disk now : Option Disk) (words : List (Bor (List ℕ))) (k : ℕ) (word : Bor (List ℕ)) (folders : List Folder) (folder : Folder) (new : List Folder) → slice_get words k ≡ Some word
+    → new ≡ folders ++ folder ∷ [] → AreFoldersOf disk (map bytes_of (take k words)) folders → now ≡ disk → IsFolderRead now word.now folder
+    → AreFoldersOf disk (map bytes_of (take (k + 1) words)) new
+next_folder disk now words k word folders folder new found after before same last =
+    subst (λ (ws : List (List ℕ)). AreFoldersOf disk ws new) (sym (map-take-more bytes_of words k word found))
+    (subst (λ (fs : List Folder). AreFoldersOf disk (map bytes_of (take k words) ++ word.now ∷ []) fs) (sym after)
+    (folders-more disk (map bytes_of (take k words)) folders word.now folder before (subst (λ d. IsFolderRead d word.now folder) same last)))

@@ -5,6 +5,7 @@ use Rattle.jv_program_base.specs.declared.failure.Failure.TheVariants.{Unreadabl
 use Rattle.jv_program_base.specs.declared.folder.Folder.{Folder}
 use Rattle.jv_program_base.specs.declared.outcome.Outcome.{Outcome}
 use Rattle.jv_program_run.specs.declared.settings.RunSettings.{RunSettings}
+use Rattle.jv_program_base.specs.Disk.{Disk}
 use Rattle.jv_program_base.specs.Failure.{IsOneNotRead}
 use Rattle.jv_program_run.specs.Feeding.{is_no_guest}
 use Rattle.jv_program_base.specs.Folder.{IsFolderRead}
@@ -12,38 +13,40 @@ use Rattle.jv_program_run.specs.Guests.{named_guest}
 use Rattle.jv_program_run.specs.Outcome.{IsGuestsFailure, IsRunOutcome}
 
 -- there is one folder for each word, which was read by it
-pub record AreFoldersOf (words : List (List ℕ)) (folders : List Folder) : Type 0 where
+pub record AreFoldersOf (disk : Option Disk) (words : List (List ℕ)) (folders : List Folder) : Type 0 where
   pub count : length folders ≡ length words
   pub read :
       (place : ℕ) (word : List ℕ) (folder : Folder) → slice_get words place ≡ Some word → slice_get folders place ≡ Some folder
-      → IsFolderRead word folder
+      → IsFolderRead disk word folder
 
 -- there are at most 64 folders, and the guest that is fed is that of one of them
 abbrev pub AreTaken : RunSettings → (words : List (List ℕ)) → Type 0
 AreTaken s words = (length words ≤ 64) × (is_no_guest s.stdin (length words) ≡ false)
 
 -- The folders of the words were read, and the report is on their guests.
-pub record IsRunAs (s : RunSettings) (words : List (List ℕ)) (before after : Option (List ℕ)) (outcome : Outcome) : Type 0 where
+pub record IsRunAs (disk : Option Disk) (s : RunSettings) (words : List (List ℕ)) (before after : Option (List ℕ)) (outcome : Outcome)
+    : Type 0 where
   pub taken : AreTaken s words
   pub folders : List Folder
-  pub read : AreFoldersOf words folders
+  pub read : AreFoldersOf disk words folders
   pub ran : IsRunOutcome s (map named_guest folders) before after outcome
 
 -- ---- words of which there is no report
 
 -- the folders of the words were read, and this is why there is no report on their guests
-pub record IsFailureOf (s : RunSettings) (words : List (List ℕ)) (before after : Option (List ℕ)) (failure : Failure) : Type 0 where
+pub record IsFailureOf (disk : Option Disk) (s : RunSettings) (words : List (List ℕ)) (before after : Option (List ℕ)) (failure : Failure)
+    : Type 0 where
   pub taken : AreTaken s words
   pub folders : List Folder
-  pub read : AreFoldersOf words folders
+  pub read : AreFoldersOf disk words folders
   pub failed : IsGuestsFailure s (map named_guest folders) before after failure
 
 -- Why there is no report on the folders of these words: there are more than 64; or none of the guest that is to be fed; or a folder, or a
 -- file in it, can't be read; all this before anything is read of the input. Else it lies with the guests. Or the program's memory was
 -- refused, on the way to any of these.
-abbrev pub IsRunFailure : RunSettings → (words : List (List ℕ)) → (before after : Option (List ℕ)) → Failure → Type 0
-IsRunFailure s words before after TooManyFolders = (64 < length words) × (after ≡ before)
-IsRunFailure s words before after NoGuest = (length words ≤ 64) × (is_no_guest s.stdin (length words) ≡ true) × (after ≡ before)
-IsRunFailure s words before after (Unreadable name) = AreTaken s words × IsOneNotRead words (Unreadable name) × (after ≡ before)
-IsRunFailure s words before after OutOfMemory = AreTaken s words
-IsRunFailure s words before after failure = IsFailureOf s words before after failure
+abbrev pub IsRunFailure : Option Disk → RunSettings → (words : List (List ℕ)) → (before after : Option (List ℕ)) → Failure → Type 0
+IsRunFailure disk s words before after TooManyFolders = (64 < length words) × (after ≡ before)
+IsRunFailure disk s words before after NoGuest = (length words ≤ 64) × (is_no_guest s.stdin (length words) ≡ true) × (after ≡ before)
+IsRunFailure disk s words before after (Unreadable name) = AreTaken s words × IsOneNotRead words (Unreadable name) × (after ≡ before)
+IsRunFailure disk s words before after OutOfMemory = AreTaken s words
+IsRunFailure disk s words before after failure = IsFailureOf disk s words before after failure

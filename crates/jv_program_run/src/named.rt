@@ -25,8 +25,8 @@ fn read_folders<'a, F: Folders>(
     folders: &mut F,
     words: &[&'a str],
 ) -> Result<Vec<Folder<'a>>, Failure>
-    ensures ok { IfOk result (λ folders. AreFoldersOf (map bytes_of words.now) folders.items) }
-    ensures count { IfOk result (λ folders. length folders.items ≡ length words.now) }
+    ensures ok { IfOk result (λ read. AreFoldersOf (F.disk folders.old) (map bytes_of words.now) read.items) }
+    ensures count { IfOk result (λ read. length read.items ≡ length words.now) }
     ensures err { IfErr result (IsOneNotRead (map bytes_of words.now)) }
 {
     let mut read = Vec::new(alloc);
@@ -86,9 +86,9 @@ pub fn run_named<F: Folders, I: Read, W: Watch>(
     watch: &mut W,
 ) -> Result<Outcome, Failure>
     ensures ok { IfOk result
-        (IsRunAs settings (map bytes_of words.now) (I.remaining input.old) (I.remaining input.new)) }
+        (IsRunAs (F.disk folders.old) settings (map bytes_of words.now) (I.remaining input.old) (I.remaining input.new)) }
     ensures err { IfErr result
-        (IsRunFailure settings (map bytes_of words.now) (I.remaining input.old) (I.remaining input.new)) }
+        (IsRunFailure (F.disk folders.old) settings (map bytes_of words.now) (I.remaining input.old) (I.remaining input.new)) }
     ensures unread { (AreTaken settings (map bytes_of words.now) → ⊥) → folders.new ≡ folders.old }
 {
     if words.len() > FOLDERS {

@@ -1,7 +1,7 @@
 //! Checks class files, or runs those of folders as the guests of one host, and reports what was found.
 #![tactic(auto)]
 
-use jv_program::{ProgressLine, Stop, command_watched, tell};
+use jv_program::{ProgressLine, Stop, Stream, command_watched, tell};
 use jv_program_base::{Failure, SystemFolders, hashing_state};
 use jv_program_words::not_text;
 use std::env;
@@ -28,8 +28,8 @@ fn given<R: Env + RandomSource + AllocGlobal>(rt: &R) -> Result<(Vec<String>, Ra
 }
 
 fn main(rt: HostRuntime) -> ExitCode {
-    let mut out = rt.stdout();
-    let mut err = rt.stderr();
+    let mut out = Stream(rt.stdout());
+    let mut err = Stream(rt.stderr());
     let status = match given(&rt) {
         Ok((words, state)) => command_watched(
             rt.alloc(),

@@ -1,5 +1,8 @@
 use Rattle.std.proofs.lemmas.Grind.{common_steps}
-use Rattle.std.proofs.Common.{arith, map}
+use Rattle.std.proofs.Common.{◌≡◌, [], ◌∷◌, ◌++◌, arith, map, subst, sym, ◌∙◌}
+use Rattle.std.proofs.lemmas.List.Elements.{All-push}
+use Rattle.std.specs.Prelude.{All}
+use Rattle.jv_program_base.specs.Folder.{IsFileIn, IsReadUpToLimit}
 use Rattle.jv_program_base.specs.declared.failure.Failure.TheVariants.{OutOfMemory}
 use Rattle.jv_limits.specs.Bytes.{bytes_of}
 use Rattle.jv_program_base.specs.Inside.Reading.{IsOneUnreadIn}
@@ -8,7 +11,19 @@ use Rattle.jv_program_base.proofs.Places.{in_place, passed_on}
 use Rattle.jv_program_base.proofs.folder.read_class_files.Goals as goal
 
 pub loop-name-preserved : goal.loop-name-preserved
-loop-name-preserved g c = grind (arith, common_steps)
+loop-name-preserved g c =
+    let disk = g.F.Folders.disk c.args.folders.now in
+    let word = c.args.folder.now in
+    let file = c.in_ok-class_file.class_file in
+    let pushed : c.push.new.self.items ≡ c.loop-name.class_files.items ++ file ∷ [] = grind (arith, common_steps) in
+    let read = (c.in_ok-class_file.ensures {u = tt}).read in
+    record {
+      named = grind (arith, common_steps);
+      most = subst (All IsReadUpToLimit) (sym pushed) (All-push IsReadUpToLimit c.loop-name.class_files.items file c.loop-name.invariant.most (c.in_ok-class_file.ensures {u = tt}).most);
+      read = subst (All (IsFileIn disk word)) (sym pushed) (All-push (IsFileIn disk word) c.loop-name.class_files.items file c.loop-name.invariant.read
+          (subst (λ d. IsFileIn d word file) c.loop-name.invariant.disk read));
+      disk = c.read_class_file.ensures.disk ∙ c.loop-name.invariant.disk;
+    }
 
 pub returns-clause-named : goal.returns-clause-named
 returns-clause-named g c = grind (arith, common_steps)

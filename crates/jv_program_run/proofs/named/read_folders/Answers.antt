@@ -1,5 +1,5 @@
 use Rattle.std.proofs.lemmas.Grind.{common_steps}
-use Rattle.std.proofs.Common.{◌≡◌, ◌∷◌, ◌++◌, [], arith, map}
+use Rattle.std.proofs.Common.{◌≡◌, ◌∷◌, ◌++◌, [], arith, map, ◌∙◌}
 use Rattle.jv_program_base.specs.declared.failure.Failure.TheVariants.{OutOfMemory}
 use Rattle.jv_limits.specs.Bytes.{bytes_of}
 use Rattle.jv_program_base.specs.Failure.{IsOneNotRead}
@@ -13,8 +13,11 @@ loop-word-preserved g c =
     let words = c.args.words.now in
     let k = c.loop-word.word-index in
     let after : c.push.new.self.items ≡ c.loop-word.read.items ++ c.in_ok-folder.folder ∷ [] = grind (arith, common_steps) in
-    next_folder words k _ c.loop-word.read.items c.in_ok-folder.folder c.push.new.self.items (in_place words k _ c.loop-word-test.true) after c.loop-word.invariant
-    (c.in_ok-folder.ensures {u = tt}).ok
+    record {
+      read = next_folder (g.F.Folders.disk c.args.folders.now) (g.F.Folders.disk c.loop-word.folders) words k _ c.loop-word.read.items c.in_ok-folder.folder c.push.new.self.items
+          (in_place words k _ c.loop-word-test.true) after c.loop-word.invariant.read c.loop-word.invariant.disk (c.in_ok-folder.ensures {u = tt}).ok;
+      disk = c.read_folder.ensures.disk ∙ c.loop-word.invariant.disk;
+    }
 
 pub returns-in_err-folder-clause-err : goal.returns-in_err-folder-clause-err
 returns-in_err-folder-clause-err g c =

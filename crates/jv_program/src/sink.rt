@@ -1,0 +1,56 @@
+//! What the program writes to.
+ghost use Rattle.std.specs.Prelude.{◌≡◌, ℕ, Bool, List, Option, false, IfSome, IsOk, IsTrue, OnErr, OnOk};
+ghost use Rattle.std.specs.Io.KnownBytes.{Appends};
+ghost use Rattle.jv_program.specs.Written.{WritesCut};
+
+use crate::written::write_bytes;
+use std::fmt;
+use std::io::Write;
+
+/// A write failed, or took nothing.
+#[derive(Clone, Copy, Debug)]
+pub struct Lost;
+
+/// Where texts are written: standard output and standard error, or what stands for them.
+pub trait Sink {
+    /// What has been written, where that is known.
+    ghost contents: { Self → Option (List ℕ) };
+
+    /// Whether no write fails. Nothing that runs can ask for it, so what is done for one that never fails is done for each.
+    ghost SURE: { Bool };
+
+    /// Writes bytes. Where a write fails, a front of them was written, and not all.
+    fn write(&mut self, bytes: &[u8]) -> Result<(), Lost>
+        ensures whole { OnOk result (Appends (contents self.old) (contents self.new) bytes.now) }
+        ensures cut { OnErr result (WritesCut (contents self.old) (contents self.new) bytes.now) }
+        ensures sure { IsTrue SURE → IsOk result };
+
+    /// Writes what is displayed.
+    fn tell<D: fmt::Display + Drop>(&mut self, text: D) -> Result<(), Lost>
+        ensures whole { OnOk result (IfSome (D.output text) (Appends (contents self.old) (contents self.new))) }
+        ensures sure { IsTrue SURE → IsOk result };
+}
+
+/// A stream, whose writes may fail.
+#[derive(Drop)]
+pub struct Stream<W>(pub W);
+
+impl<W: Write> Sink for Stream<W> {
+    ghost contents = { λ stream. W.contents stream.0 };
+
+    ghost SURE = { false };
+
+    fn write(&mut self, bytes: &[u8]) -> Result<(), Lost> {
+        match write_bytes(&mut self.0, bytes) {
+            Ok(()) => Ok(()),
+            Err(_) => Err(Lost),
+        }
+    }
+
+    fn tell<D: fmt::Display + Drop>(&mut self, text: D) -> Result<(), Lost> {
+        match write!(self.0, "{text}") {
+            Ok(()) => Ok(()),
+            Err(_) => Err(Lost),
+        }
+    }
+}
