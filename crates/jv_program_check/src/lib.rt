@@ -6,4 +6,4 @@ mod named;
 mod report;
 
 pub use checking::check_files;
-pub use named::check_named;
+pub use named::{bytes_of_files, bytes_of_texts, check_named, read_classes};

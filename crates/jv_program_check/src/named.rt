@@ -10,7 +10,7 @@ use std::alloc::{AllocError, Global};
 use std::hash::RandomState;
 
 /// The bytes of the files of these names.
-fn read_classes<F: Folders>(
+pub fn read_classes<F: Folders>(
     alloc: Global,
     folders: &mut F,
     names: &[&str],
@@ -29,7 +29,7 @@ fn read_classes<F: Folders>(
 }
 
 /// Texts as bytes.
-fn bytes_of_texts<'a>(alloc: Global, texts: &[&'a str]) -> Result<Vec<&'a [u8]>, AllocError>
+pub fn bytes_of_texts<'a>(alloc: Global, texts: &[&'a str]) -> Result<Vec<&'a [u8]>, AllocError>
     ensures { IfOk result (λ found. map bytes_of found.items ≡ map bytes_of texts.now) }
 {
     let mut found = Vec::new(alloc);
@@ -40,7 +40,7 @@ fn bytes_of_texts<'a>(alloc: Global, texts: &[&'a str]) -> Result<Vec<&'a [u8]>,
 }
 
 /// The bytes of files.
-fn bytes_of_files<'a>(alloc: Global, files: &'a [Vec<u8>]) -> Result<Vec<&'a [u8]>, AllocError>
+pub fn bytes_of_files<'a>(alloc: Global, files: &'a [Vec<u8>]) -> Result<Vec<&'a [u8]>, AllocError>
     ensures { IfOk result (λ found. map bytes_of found.items ≡ map (λ file. file.items) files.now) }
 {
     let mut found = Vec::new(alloc);

@@ -1,0 +1,4 @@
+pub mod Contents
+pub mod Explaining
+pub mod Named
+pub mod Standing

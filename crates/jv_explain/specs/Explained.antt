@@ -1,0 +1,45 @@
+-- What is said of the first rule that a method breaks (JVMS 4.10.1): the method, the instruction and the rule.
+use Rattle.std.specs.Prelude.{◌≡◌, ℕ, false, List, [], ◌++◌, Some, slice_get}
+use Rattle.jv_class.specs.Class.{Method}
+use Rattle.jv_class_structure.specs.Parts.{CodeSeen}
+use Rattle.jv_code.specs.Insns.{Instruction}
+use Rattle.jv_code.specs.Places.{IsAt}
+use Rattle.jv_meaning_world.specs.FileContent.{FileContent}
+use Rattle.jv_meaning_world.specs.declared.content.Content.TheVariants.{Holds}
+use Rattle.jv_meaning_world.specs.World.{Loaded, loaded}
+use Rattle.jv_meaning_world.specs.Verdicts.{declared_by}
+use Rattle.jv_meaning_typing.specs.Uses.{Site}
+use Rattle.jv_meaning_typing.specs.declared.verdict.VerifyRule.{VerifyRule}
+use Rattle.jv_meaning_typing.specs.declared.verdict.VerifyRule.TheVariants as rules
+use Rattle.jv_meaning_typing.specs.declared.verdict.VerifyFault.{VerifyFault}
+use Rattle.jv_meaning_typing.specs.declared.verdict.Verdict.{Verdict}
+use Rattle.jv_meaning_typing.specs.declared.verdict.Verdict.TheVariants.{Verify}
+use Rattle.jv_explain.specs.Text.{broken_text, method_text, place_text}
+
+-- the instruction at an offset of a method's code
+pub record ShowsInstruction (site : Site) (pc : ℕ) (text : List ℕ) : Type 0 where
+  pub body : CodeSeen
+  pub has_code : site.method.code ≡ Some body
+  pub insn : Instruction
+  pub at : IsAt body.code pc insn
+  pub told : text ≡ place_text site.by.class.constant_pool pc insn
+
+-- rules on the whole code are broken at no instruction
+abbrev pub ShowsPlace : Site → ℕ → VerifyRule → List ℕ → Type 0
+ShowsPlace site pc rules.Code text = text ≡ []
+ShowsPlace site pc rules.HandlerTable text = text ≡ []
+ShowsPlace site pc rules.MapFrames text = text ≡ []
+ShowsPlace site pc rule text = ShowsInstruction site pc text
+
+-- the method, the place and the rule
+pub record ExplainsFault (l : Loaded) (fault : VerifyFault) (text : List ℕ) : Type 0 where
+  pub method : Method
+  pub at : slice_get l.class.methods fault.method ≡ Some method
+  pub place : List ℕ
+  pub shown : ShowsPlace (declared_by l method) fault.offset fault.rule place
+  pub told : text ≡ method_text fault.method method ++ place ++ broken_text fault.rule
+
+-- of a class whose method breaks a rule, and of nothing else
+abbrev pub IsExplanation : FileContent → Verdict → List ℕ → Type 0
+IsExplanation (Holds class) (Verify fault) text = ExplainsFault (loaded false class) fault text
+IsExplanation content verdict text = text ≡ []

@@ -1,0 +1,81 @@
+//! What is said of a method that breaks a rule.
+
+ghost use Rattle.std.specs.Prelude.{◌≡◌, ◌++◌, IfOk, string_bytes};
+ghost use Rattle.jv_class_structure.specs.Seen.{seen_method};
+ghost use Rattle.jv_explain.specs.Text.{broken_text};
+ghost use Rattle.jv_explain.specs.Inside.Said.{ExplainsIn, ShowsFaultIn, is_at_instruction, named_text};
+
+use crate::place::place_of;
+use crate::text::{ShownFault, ShownMethod};
+use jv_class::{ClassFile, Method};
+use jv_code::stands_in_list;
+use jv_meaning_typing::{VerifyFault, VerifyRule};
+use jv_pool::Pool;
+use std::alloc::{AllocError, Global};
+
+/// Whether a rule is broken at an instruction, and not by the whole code.
+fn is_at_instruction(rule: VerifyRule) -> bool
+    ensures { result ≡ is_at_instruction rule }
+{
+    !matches!(
+        rule,
+        VerifyRule::Code | VerifyRule::HandlerTable | VerifyRule::MapFrames
+    )
+}
+
+/// The text of the place where a method breaks a rule; nothing where it is none of an instruction.
+fn place_in<'a>(
+    alloc: Global,
+    pool: &Pool<'a>,
+    method: &Method<'a>,
+    fault: VerifyFault,
+) -> Result<String, AllocError>
+    ensures { IfOk result (λ text. ShowsFaultIn pool.now (seen_method method.now) fault (string_bytes text)) }
+{
+    if !is_at_instruction(fault.rule) {
+        return Ok(String::new(alloc));
+    }
+    match method.code() {
+        Some(body) => place_of(alloc, pool, body.code, fault.offset),
+        None => Ok(String::new(alloc)),
+    }
+}
+
+/// What is said of a method with these texts, of the place where it breaks a rule, and of the rule.
+fn told(
+    alloc: Global,
+    method: ShownMethod<'_>,
+    place: &str,
+    rule: VerifyRule,
+) -> Result<String, AllocError>
+    ensures { IfOk result (λ text. string_bytes text
+        ≡ named_text method.entry.number method.entry.name.now method.entry.descriptor.now ++ place.now ++ broken_text rule) }
+{
+    let shown = ShownFault {
+        method,
+        place,
+        rule,
+    };
+    shown.to_string(alloc)
+}
+
+/// What is said of the first fault of the class of a file.
+pub(crate) fn explain_in(
+    alloc: Global,
+    file: &ClassFile<'_>,
+    fault: VerifyFault,
+) -> Result<String, AllocError>
+    ensures { IfOk result (λ text. ExplainsIn file.now fault (string_bytes text)) }
+{
+    stands_in_list();
+    let Some(method) = file.method(usize::from(fault.method)) else {
+        return Ok(String::new(alloc));
+    };
+    let place = place_in(alloc, file.pool(), &method, fault)?;
+    let named = ShownMethod {
+        number: fault.method,
+        name: file.pool().utf8(method.name),
+        descriptor: file.pool().utf8(method.descriptor),
+    };
+    told(alloc, named, &place, fault.rule)
+}

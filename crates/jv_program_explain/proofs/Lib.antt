@@ -1,0 +1,2 @@
+pub mod InParts
+pub mod Saying

@@ -1,0 +1,4 @@
+pub mod Explain
+pub mod Inside
+pub mod Named
+pub mod Text

@@ -1,0 +1,11 @@
+//! What `explain` does: the verdicts on the files of a guest, as `check` gives them, and what is said of each. A private part of the
+//! program.
+#![tactic(auto)]
+
+mod explaining;
+mod items;
+mod named;
+mod report;
+
+pub use explaining::explain_files;
+pub use named::explain_named;
