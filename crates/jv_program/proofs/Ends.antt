@@ -14,7 +14,7 @@ use Rattle.jv_program_base.specs.declared.failure.Failure.{Failure}
 use Rattle.jv_program_base.specs.declared.outcome.Outcome.{Outcome}
 use Rattle.jv_program_run.specs.Named.{IsRunFailure}
 use Rattle.jv_program_words.specs.declared.asked.RunOptions.{RunOptions}
-use Rattle.jv_program_words.specs.Settings.Asked.{run, check}
+use Rattle.jv_program_words.specs.Settings.Asked.{run, check, explain}
 use Rattle.jv_program_words.specs.CommandLine.{command_line}
 use Rattle.jv_program_words.specs.Settings.{AskFor, AskForHelp, AreRefused}
 use Rattle.jv_program.specs.Command.{AreWrong, HasEnded, IsReport, settings_of, streams}
@@ -69,14 +69,15 @@ on_ok (Ok t) p ok = p
 on_ok (Err e) p ok = absurd (cc)
 
 -- what `tell` says
-pub told_of : {T E : Type 0} (sure : Bool) (mid new e0 e1 : Option (List ℕ)) (stop : Stop) (result : Result T E) → ((IsAsked stop → ⊥) → new ≡ mid) → (IsAsked stop → e1 ≡ e0)
-    → ((failure : Failure) → stop ≡ Run failure → OnOk result (Appends e0 e1 (failure_line failure))) → (stop ≡ Output → OnOk result (Appends e0 e1 output_line))
+pub told_of : {T E : Type 0} (sure : Bool) (mid new e0 e1 told : Option (List ℕ)) (stop : Stop) (result : Result T E) → e1 ≡ told
+    → ((IsAsked stop → ⊥) → new ≡ mid) → (IsAsked stop → told ≡ e0)
+    → ((failure : Failure) → stop ≡ Run failure → OnOk result (Appends e0 told (failure_line failure))) → (stop ≡ Output → OnOk result (Appends e0 told output_line))
     → ((IsAsked stop → ⊥) → IsTrue sure → IsOk result) → IsToldOf sure mid new e0 e1 stop
-told_of sure mid new e0 e1 stop result quiet calm failure output is_sure = record {
+told_of sure mid new e0 e1 told stop result same quiet calm failure output is_sure = record {
   quiet = quiet;
-  calm = calm;
-  failure = λ f e yes. on_ok result (failure f e) (is_sure (λ h. subst IsAsked e h) yes);
-  output = λ e yes. on_ok result (output e) (is_sure (λ h. subst IsAsked e h) yes);
+  calm = λ asked. same ∙ calm asked;
+  failure = λ f e yes. subst (λ e2. Appends e0 e2 (failure_line f)) (sym same) (on_ok result (failure f e) (is_sure (λ h. subst IsAsked e h) yes));
+  output = λ e yes. subst (λ e2. Appends e0 e2 output_line) (sym same) (on_ok result (output e) (is_sure (λ h. subst IsAsked e h) yes));
 }
 
 abbrev pub IsToldAfter : Bool → Option (List ℕ) → Option (List ℕ) → Option (List ℕ) → Option (List ℕ) → Result Outcome Stop → Type 0
@@ -123,9 +124,9 @@ early_result disk so line b0 b1 old new (Ok outcome) stop is h same = absurd is
 early_result disk so line b0 b1 old new (Err e) stop is h same =
     subst (λ (s : Stop). IsCarriedOut disk so line b0 b1 old new (Err s)) (sym is) (early disk so line b0 b1 old new stop h same)
 
-not_sure : (so : Bool) {T E : Type 0} (e : E) → (IsTrue so → IsOk (the (Result T E) (Err e))) → so ≡ false
-not_sure false e sure = refl
-not_sure true e sure = absurd (let no = sure refl in cc)
+not_sure : (so : Bool) (result : Result Outcome Stop) (stop : Stop) → result ≡ Err stop → (IsTrue so → IsOk result) → so ≡ false
+not_sure false result stop is sure = refl
+not_sure true result stop is sure = absurd (let no = subst IsOk is (sure refl) in cc)
 
 -- a report that is written
 pub written : (disk : Option Disk) (so : Bool) (line : List (List ℕ)) (b0 b1 old new : Option (List ℕ)) (outcome : Outcome) (result : Result Outcome Stop) → IsReport disk line b0 b1 outcome
@@ -134,7 +135,7 @@ pub written : (disk : Option Disk) (so : Bool) (line : List (List ℕ)) (b0 b1 o
 written disk so line b0 b1 old new outcome (Ok w) report whole same cut lost sure =
     subst (λ (o : Outcome). IsReport disk line b0 b1 o × Appends old new (string_bytes o.report)) (sym same) (report, whole)
 written disk so line b0 b1 old new outcome (Err stop) report whole same cut lost sure =
-    subst (λ (s : Stop). IsCarriedOut disk so line b0 b1 old new (Err s)) (sym lost) (outcome, report, cut, not_sure so stop sure)
+    subst (λ (s : Stop). IsCarriedOut disk so line b0 b1 old new (Err s)) (sym lost) (outcome, report, cut, not_sure so (Err stop) stop refl sure)
 
 -- with a report and nothing to tell, or without one
 pub ended : (disk : Option Disk) (so se : Bool) (line : List (List ℕ)) (b0 b1 old mid new e0 e1 : Option (List ℕ)) (end : Result Outcome Stop) (status : ℕ)
@@ -159,4 +160,8 @@ module _ (disk : Option Disk) (line : List (List ℕ)) (b0 b1 : Option (List ℕ
 
   pub check_failed : (names : List (List ℕ)) (failure : Failure) → AskFor line (check names) → IsNamedFailure disk names failure → b1 ≡ b0
       → IsEarly disk line b0 b1 (Run failure)
-  check_failed names failure asked failed unread = inr (inl (record { names = names; asked = asked; failed = failed; unread = unread }))
+  check_failed names failure asked failed unread = inr (inl (record { names = names; asked = inl asked; failed = failed; unread = unread }))
+
+  pub explain_failed : (names : List (List ℕ)) (failure : Failure) → AskFor line (explain names) → IsNamedFailure disk names failure → b1 ≡ b0
+      → IsEarly disk line b0 b1 (Run failure)
+  explain_failed names failure asked failed unread = inr (inl (record { names = names; asked = inr asked; failed = failed; unread = unread }))

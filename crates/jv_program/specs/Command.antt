@@ -6,6 +6,7 @@ use Rattle.clap.specs.declared.error.Error.{Error}
 use Rattle.clap.specs.declared.error.kind.ErrorKind.TheVariants as kinds
 use Rattle.jv_program_base.specs.Disk.{Disk}
 use Rattle.jv_program_check.specs.Named.{IsCheckedAs, IsNamedFailure}
+use Rattle.jv_program_explain.specs.Named.{IsExplainedAs}
 use Rattle.jv_program_base.specs.declared.failure.Failure.{Failure}
 use Rattle.jv_program_base.specs.declared.failure.Failure.TheVariants.{OutOfMemory}
 use Rattle.jv_program_base.specs.declared.outcome.Outcome.{Outcome}
@@ -14,7 +15,7 @@ use Rattle.jv_program_base.specs.Failure.{failure_line, failure_status}
 use Rattle.jv_program_run.specs.Named.{AreTaken, IsRunAs, IsRunFailure}
 use Rattle.jv_program_words.specs.declared.asked.RunOptions.{RunOptions}
 use Rattle.jv_program_words.specs.Settings.{AskFor, AskForHelp, AreRefused}
-use Rattle.jv_program_words.specs.Settings.Asked.{run, check}
+use Rattle.jv_program_words.specs.Settings.Asked.{run, check, explain}
 use Rattle.jv_program.specs.Status.{output_line}
 use Rattle.jv_program.specs.Written.{WritesCut}
 
@@ -29,11 +30,12 @@ settings_of options = record {
 
 -- ---- what there is to read
 
--- The words ask for a check, or to run folders that are taken: at most 64, the guest that is fed among them. Else nothing is opened.
+-- The words ask for a check, for explanations, or to run folders that are taken: at most 64, the guest that is fed among them. Else
+-- nothing is opened.
 abbrev pub IsBegun : (line : List (List ℕ)) → Type 0
 IsBegun line =
     ((options : RunOptions) × (folders : List (List ℕ)) × AskFor line (run options folders) × AreTaken (settings_of options) folders)
-    ⊎ ((names : List (List ℕ)) × AskFor line (check names))
+    ⊎ (((names : List (List ℕ)) × AskFor line (check names)) ⊎ ((names : List (List ℕ)) × AskFor line (explain names)))
 
 -- ---- reports
 
@@ -52,9 +54,18 @@ pub record IsCheckReport (disk : Option Disk) (line : List (List ℕ)) (before a
   pub checked : IsCheckedAs disk names outcome
   pub unread : after ≡ before
 
+-- The words ask to explain the verdicts on class files, and the report is on these. Nothing is read of the input.
+pub record IsExplainReport (disk : Option Disk) (line : List (List ℕ)) (before after : Option (List ℕ)) (outcome : Outcome) : Type 0 where
+  pub names : List (List ℕ)
+  pub asked : AskFor line (explain names)
+  pub explained : IsExplainedAs disk names outcome
+  pub unread : after ≡ before
+
 -- the report is what the words ask for
 abbrev pub IsReport : (disk : Option Disk) → (line : List (List ℕ)) → (before after : Option (List ℕ)) → Outcome → Type 0
-IsReport disk line before after outcome = IsRunReport disk line before after outcome ⊎ IsCheckReport disk line before after outcome
+IsReport disk line before after outcome =
+    IsRunReport disk line before after outcome
+    ⊎ (IsCheckReport disk line before after outcome ⊎ IsExplainReport disk line before after outcome)
 
 -- ---- no report
 
@@ -65,10 +76,10 @@ pub record IsRunFailed (disk : Option Disk) (line : List (List ℕ)) (before aft
   pub asked : AskFor line (run options folders)
   pub failed : IsRunFailure disk (settings_of options) folders before after failure
 
--- or to check class files
+-- or to check class files, or to explain the verdicts on them
 pub record IsCheckFailed (disk : Option Disk) (line : List (List ℕ)) (before after : Option (List ℕ)) (failure : Failure) : Type 0 where
   pub names : List (List ℕ)
-  pub asked : AskFor line (check names)
+  pub asked : AskFor line (check names) ⊎ AskFor line (explain names)
   pub failed : IsNamedFailure disk names failure
   pub unread : after ≡ before
 

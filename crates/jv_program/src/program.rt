@@ -15,6 +15,7 @@ use crate::stop::{Stop, status_of, stop_of};
 use crate::written::write_report;
 use jv_program_base::{Folders, Outcome};
 use jv_program_check::check_named;
+use jv_program_explain::explain_named;
 use jv_program_run::{Budget, RunSettings, Unwatched, Watch, run_named};
 use jv_program_words::{RunOptions, Settings, settings};
 use std::alloc::Global;
@@ -74,6 +75,7 @@ fn outcome_for<F: Folders, I: Read, P: Watch>(
             }
         }
         Settings::Check(names) => Ok(check_named(alloc, state, names.as_slice(), folders)?),
+        Settings::Explain(names) => Ok(explain_named(alloc, state, names.as_slice(), folders)?),
     }
 }
 
@@ -125,8 +127,9 @@ pub fn tell<O: Sink, E: Sink>(stop: &Stop, out: &mut O, err: &mut E) -> Result<(
 }
 
 /// Does what words say, of which the first is the program's name, and answers the status that the program ends with: runs the guests of
-/// folders, or checks class files, and writes the report. Names are hashed with the state. What there is in place of a report is told with
-/// the errors, and what words ask for of the program itself with the output; where that can't be written, the status is the same.
+/// folders, checks class files, or explains the verdicts on them, and writes the report. Names are hashed with the state. What there is in
+/// place of a report is told with the errors, and what words ask for of the program itself with the output; where that can't be written,
+/// the status is the same.
 pub fn command<F: Folders, I: Read, O: Sink, E: Sink>(
     alloc: Global,
     state: RandomState,

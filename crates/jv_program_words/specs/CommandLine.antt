@@ -1,6 +1,7 @@
 -- The command line (own), as a simple command of the library `clap`, which reads it:
 --     jvhost run [--cells N] [--words N] [--output N] [--quantum N] [--rounds N] [--stdin K] [--progress] FOLDER...
 --     jvhost check FILE...
+--     jvhost explain FILE...
 use Rattle.std.specs.Prelude.{ℕ, true, List, Some, codes, pos}
 use Rattle.clap.specs.Lexer.{usize_max}
 use Rattle.clap.specs.Walk.{Rule}
@@ -54,11 +55,16 @@ run_line = with_company (with_steps (with_budget (with_rule (new_app (codes "run
 abbrev pub check_line : App
 check_line = with_rule (new_app (codes "check")) (one_or_more (codes "file"))
 
--- one of the two commands has to be there; `--help` and `--version` are answered
+abbrev pub explain_line : App
+explain_line = with_rule (new_app (codes "explain")) (one_or_more (codes "file"))
+
+-- one of the three commands has to be there; `--help` and `--version` are answered
 abbrev pub command_line : App
 command_line =
     with_subcommand
     (with_subcommand
+    (with_subcommand
     (on_top (λ top. record top { has_version = true; subcommand_required = true }) (new_app (codes "jvhost")))
     run_line.top)
-    check_line.top
+    check_line.top)
+    explain_line.top

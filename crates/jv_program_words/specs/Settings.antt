@@ -82,17 +82,19 @@ options_in rows =
 
 -- ---- what is asked for
 
--- to run the guests in folders, or to check files
+-- to run the guests in folders, to check files, or to explain the verdicts on them
 pub data Asked : Type 0 where
   run : RunOptions → (folders : List (List ℕ)) → Asked
   check : (files : List (List ℕ)) → Asked
+  explain : (files : List (List ℕ)) → Asked
 
 -- what a command asks for, by its name and the rows of its arguments
 abbrev pub asked_by : List ℕ × List Row → Option Asked
 asked_by (name, rows) =
     if bytes_eq name (codes "run")
     then option_and_then (λ options. option_map (run options) (all_of (codes "folder") rows)) (options_in rows)
-    else if bytes_eq name (codes "check") then option_map check (all_of (codes "file") rows) else None
+    else if bytes_eq name (codes "check") then option_map check (all_of (codes "file") rows)
+    else if bytes_eq name (codes "explain") then option_map explain (all_of (codes "file") rows) else None
 
 -- What words that the library takes ask for, of which the first is the program's own name; none where they name no command with its names
 -- and options.
@@ -111,6 +113,7 @@ AreNames texts names = option_map texts_of names ≡ texts
 abbrev pub asked_of : Settings → Asked
 asked_of (settings.Run options folders) = run options (texts_of folders)
 asked_of (settings.Check files) = check (texts_of files)
+asked_of (settings.Explain files) = explain (texts_of files)
 
 -- the settings are what is asked for
 abbrev pub IsAskedBy : Option Asked → Option Settings → Type 0

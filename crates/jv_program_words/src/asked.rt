@@ -28,6 +28,8 @@ pub enum Settings<'a> {
     Run(RunOptions, Vec<&'a str>),
     /// To check files.
     Check(Vec<&'a str>),
+    /// To explain the verdicts on files.
+    Explain(Vec<&'a str>),
 }
 
 /// What holds where no option is used: 65,536 cells, words and bytes of output, and 10,000 rounds of turns of 1,000 steps.

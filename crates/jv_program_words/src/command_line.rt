@@ -1,7 +1,7 @@
 //! The command line, as the library that reads it takes it.
 ghost use Rattle.std.specs.Prelude.{◌≡◌, IfOk, false};
 ghost use Rattle.clap.specs.Words.{app_of, rule_of};
-ghost use Rattle.jv_program_words.specs.CommandLine.{check_line, command_line, flag, number_option, one_or_more, run_line};
+ghost use Rattle.jv_program_words.specs.CommandLine.{check_line, command_line, explain_line, flag, number_option, one_or_more, run_line};
 
 use clap::{Arg, ArgAction, Command, value_parser};
 use std::alloc::{AllocError, Global};
@@ -130,6 +130,15 @@ fn check_line<'a>(alloc: Global) -> Result<Command<'a>, AllocError>
     Command::new(alloc, "check").about(about).arg(files)
 }
 
+/// The command `explain FILE...`.
+fn explain_line<'a>(alloc: Global) -> Result<Command<'a>, AllocError>
+    ensures { IfOk result (λ line. app_of line ≡ explain_line) }
+{
+    let about = "Checks class files as `check` does, and says more of each that isn't accepted";
+    let files = words(alloc, "file", "FILE", "A class file of the guest");
+    Command::new(alloc, "explain").about(about).arg(files)
+}
+
 /// The program's command line.
 ///
 /// # Errors
@@ -143,5 +152,6 @@ pub(crate) fn command_line<'a>(alloc: Global) -> Result<Command<'a>, AllocError>
         .version("0.1.0")
         .subcommand_required(true)
         .subcommand(run_line(alloc)?)?
-        .subcommand(check_line(alloc)?)
+        .subcommand(check_line(alloc)?)?
+        .subcommand(explain_line(alloc)?)
 }

@@ -105,6 +105,8 @@ fn asked_by<'a>(
         Ok(names_in(alloc, found, "folder")?.map(|folders| Settings::Run(options, folders)))
     } else if command == "check" {
         Ok(names_in(alloc, found, "file")?.map(Settings::Check))
+    } else if command == "explain" {
+        Ok(names_in(alloc, found, "file")?.map(Settings::Explain))
     } else {
         Ok(None)
     }

@@ -3,7 +3,7 @@ use Rattle.std.specs.Prelude.{◌≡◌, ℕ, true, List, [], ◌∷◌, Some, N
 use Rattle.clap.specs.Words.{fault_of}
 use Rattle.clap.specs.declared.error.kind.ErrorKind.TheVariants as kinds
 use Rattle.jv_program_words.specs.CommandLine.{command_line}
-use Rattle.jv_program_words.specs.Settings.{asked_in, check, run, usual_options}
+use Rattle.jv_program_words.specs.Settings.{asked_in, check, explain, run, usual_options}
 
 -- the words behind the program's own
 abbrev words : List (List ℕ) → List (List ℕ)
@@ -22,6 +22,8 @@ pub record WordRows : Type 0 where
       ≡ Some (run (record usual_options { progress = true }) (codes "a" ∷ []))
   pub files : asked_in (words (codes "check" ∷ codes "A.class" ∷ codes "B.class" ∷ []))
       ≡ Some (check (codes "A.class" ∷ codes "B.class" ∷ []))
+  pub explained : asked_in (words (codes "explain" ∷ codes "A.class" ∷ codes "B.class" ∷ []))
+      ≡ Some (explain (codes "A.class" ∷ codes "B.class" ∷ []))
   pub nothing : asked_in (words []) ≡ None
   pub no_command : fault_of command_line (words []) ≡ kinds.MissingSubcommand ∷ []
   pub no_folder : fault_of command_line (words (codes "run" ∷ [])) ≡ kinds.MissingRequiredArgument ∷ []

@@ -20,10 +20,9 @@ returns-clause-ended g c =
     let told : IsToldAfter sure mid new e0 e1 end = elim c.match-end.branch [
       | in-Err w ↦
           subst (λ (r : Result Outcome Stop). IsToldAfter sure mid new e0 e1 r) (sym w.in-Err.is)
-          (told_of sure mid new e0 e1 _ w.tell.result
-          (λ not. ap g.O.Sink.contents (w.out-is ∙ w.tell.ensures.quiet not))
-          (λ asked. ap g.E.Sink.contents (w.err-is ∙ w.tell.ensures.calm asked))
-          ? ? w.tell.ensures.sure)
+          (told_of sure mid new e0 e1 (g.E.Sink.contents w.tell.new.err) _ w.tell.result (ap g.E.Sink.contents w.err-is)
+          (λ not. ap g.O.Sink.contents (w.out-is ∙ w.tell.ensures.quiet not)) (λ asked. ap g.E.Sink.contents (w.tell.ensures.calm asked))
+          w.tell.ensures.failure w.tell.ensures.output w.tell.ensures.sure)
       | in_default w ↦ subst (λ (r : Result Outcome Stop). IsToldAfter sure mid new e0 e1 r) (sym w.in_default.is)
           (ap g.O.Sink.contents w.out-is, ap g.E.Sink.contents w.err-is)
     ] in

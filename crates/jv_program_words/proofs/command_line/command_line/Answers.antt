@@ -2,7 +2,7 @@ use Rattle.std.proofs.Common.{◌≡◌, ◌∙◌, true, ap, codes, refl}
 use Rattle.std.proofs.lemmas.Result.{IfOk-weaker}
 use Rattle.clap.specs.Words.{App, Shape, app_of, new_app, with_subcommand}
 use Rattle.clap.specs.Simple.{app_of_fields, on_top}
-use Rattle.jv_program_words.specs.CommandLine.{check_line, run_line}
+use Rattle.jv_program_words.specs.CommandLine.{check_line, explain_line, run_line}
 use Rattle.jv_program_words.proofs.Lines.{joins}
 use Rattle.jv_program_words.proofs.command_line.command_line.Goals as goal
 
@@ -20,6 +20,7 @@ returns c =
     let top : app_of c.subcommand_required.result ≡ on_top needing (on_top versioned (new_app (codes "jvhost"))) =
     ap app_of_fields c.subcommand_required.ensures ∙ ap (on_top needing) version in
     let run = joins _ _ _ run_line c.in_ok-subcommand.ensures c.in_ok-run_line.ensures refl ∙ ap (λ (a : App). with_subcommand a run_line.top) top in
-    IfOk-weaker c.subcommand-2.result _ _ (λ line h. joins _ _ line check_line h c.in_ok-check_line.ensures refl
-    ∙ ap (λ (a : App). with_subcommand a check_line.top) run)
-    c.subcommand-2.ensures
+    let check = joins _ _ _ check_line c.in_ok-subcommand-2.ensures c.in_ok-check_line.ensures refl ∙ ap (λ (a : App). with_subcommand a check_line.top) run in
+    IfOk-weaker c.subcommand-3.result _ _ (λ line h. joins _ _ line explain_line h c.in_ok-explain_line.ensures refl
+    ∙ ap (λ (a : App). with_subcommand a explain_line.top) check)
+    c.subcommand-3.ensures

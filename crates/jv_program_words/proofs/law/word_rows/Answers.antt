@@ -12,6 +12,7 @@ rows = record {
   fed = refl;
   told = refl;
   files = refl;
+  explained = refl;
   nothing = refl;
   no_command = refl;
   no_folder = refl;
