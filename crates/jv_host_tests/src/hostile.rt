@@ -83,7 +83,14 @@ fn is_not_heard(alloc: Global, state: RandomState) -> bool {
         if status != 6 || err.0.as_slice() != "jvhost: output\n".as_bytes() {
             return false;
         }
-        if status_with(alloc, state, words.as_slice(), &mut Stream(Idle), &mut Stream(Idle)) != 6 {
+        if status_with(
+            alloc,
+            state,
+            words.as_slice(),
+            &mut Stream(Idle),
+            &mut Stream(Idle),
+        ) != 6
+        {
             return false;
         }
     }

@@ -1,4 +1,5 @@
 //! What no clause says of the program: what it prints, and its statuses, over folders, an input and outputs in memory.
+ghost use Rattle.std.specs.Prelude.{None};
 
 use crate::files::{ECHO_FILE, HI};
 use jv_program::{Stream, command};

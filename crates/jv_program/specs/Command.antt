@@ -1,5 +1,5 @@
 -- How the program ends, and what it has written then (own).
-use Rattle.std.specs.Prelude.{◌≡◌, ◌≢◌, ◌⊎◌, ℕ, Bool, false, IsTrue, List, Option, string_bytes}
+use Rattle.std.specs.Prelude.{◌≡◌, ◌≢◌, ◌⊎◌, ℕ, Bool, true, false, IsTrue, List, Option, string_bytes}
 use Rattle.std.specs.Io.KnownBytes.{Appends}
 use Rattle.clap.specs.Values.{kind_of}
 use Rattle.clap.specs.declared.error.Error.{Error}
@@ -36,6 +36,11 @@ abbrev pub IsBegun : (line : List (List ℕ)) → Type 0
 IsBegun line =
     ((options : RunOptions) × (folders : List (List ℕ)) × AskFor line (run options folders) × AreTaken (settings_of options) folders)
     ⊎ (((names : List (List ℕ)) × AskFor line (check names)) ⊎ ((names : List (List ℕ)) × AskFor line (explain names)))
+
+-- the words ask to run the guests of folders, and to be told on the way how far the run is
+abbrev pub AskForProgress : (line : List (List ℕ)) → Type 0
+AskForProgress line =
+    (options : RunOptions) × (folders : List (List ℕ)) × AskFor line (run options folders) × (options.progress ≡ true)
 
 -- ---- reports
 

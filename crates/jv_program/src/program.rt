@@ -5,7 +5,7 @@ ghost use Rattle.jv_program_base.specs.Disk.{Disk};
 ghost use Rattle.jv_program_base.specs.Failure.{failure_line};
 ghost use Rattle.jv_program_base.specs.declared.failure.Failure.{Failure};
 ghost use Rattle.jv_program_words.specs.Settings.{IsAskedIn};
-ghost use Rattle.jv_program.specs.Command.{HasEnded, IsBegun, IsReport, settings_of, streams};
+ghost use Rattle.jv_program.specs.Command.{AskForProgress, HasEnded, IsBegun, IsReport, settings_of, streams};
 ghost use Rattle.jv_program.specs.Inside.Stops.{IsCarriedOut, IsEarly};
 ghost use Rattle.jv_program.specs.Status.{IsAsked, output_line};
 ghost use Rattle.jv_program.specs.declared.stop.Stop.TheVariants.{Output, Run};
@@ -62,13 +62,16 @@ fn outcome_for<F: Folders, I: Read, P: Watch>(
     ensures ok { IfOk result (IsReport (F.disk folders.old) (map string_bytes words.now) (I.remaining input.old) (I.remaining input.new)) }
     ensures err { IfErr result (IsEarly (F.disk folders.old) (map string_bytes words.now) (I.remaining input.old) (I.remaining input.new)) }
     ensures unread { (IsBegun (map string_bytes words.now) → ⊥) → folders.new ≡ folders.old }
+    ensures unwatched { (AskForProgress (map string_bytes words.now) → ⊥) → watch.new ≡ watch.old }
 {
     match asked(alloc, words)? {
         Settings::Run(options, named) => {
             let settings = settings_of(options);
             let named = named.as_slice();
             if options.progress {
-                Ok(run_named(alloc, state, settings, named, folders, input, watch)?)
+                let made = run_named(alloc, state, settings, named, folders, input, watch);
+                watch.end();
+                Ok(made?)
             } else {
                 let unwatched = &mut Unwatched;
                 Ok(run_named(alloc, state, settings, named, folders, input, unwatched)?)
@@ -92,9 +95,9 @@ fn carry_out<F: Folders, I: Read, O: Sink, P: Watch>(
     ensures carried { IsCarriedOut (F.disk folders.old) O.SURE (map string_bytes words.now)
         (I.remaining input.old) (I.remaining input.new) (O.contents out.old) (O.contents out.new) result }
     ensures unread { (IsBegun (map string_bytes words.now) → ⊥) → folders.new ≡ folders.old }
+    ensures unwatched { (AskForProgress (map string_bytes words.now) → ⊥) → watch.new ≡ watch.old }
 {
     let made = outcome_for(alloc, state, words, folders, input, watch);
-    watch.end();
     write_report(out, made?)
 }
 
@@ -171,6 +174,7 @@ pub fn command_watched<F: Folders, I: Read, O: Sink, E: Sink, P: Watch>(
         (streams (I.remaining input.old) (O.contents out.old) (E.contents err.old))
         (streams (I.remaining input.new) (O.contents out.new) (E.contents err.new)) result }
     ensures unread { (IsBegun (map string_bytes words.now) → ⊥) → folders.new ≡ folders.old }
+    ensures unwatched { (AskForProgress (map string_bytes words.now) → ⊥) → watch.new ≡ watch.old }
 {
     let end = carry_out(alloc, state, words, folders, input, out, watch);
     if let Err(stop) = &end {

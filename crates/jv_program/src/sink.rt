@@ -1,9 +1,7 @@
 //! What the program writes to.
-ghost use Rattle.std.specs.Prelude.{◌≡◌, ℕ, Bool, List, Option, false, IfSome, IsOk, IsTrue, OnErr, OnOk};
-ghost use Rattle.std.specs.Io.KnownBytes.{Appends};
-ghost use Rattle.jv_program.specs.Written.{WritesCut};
+ghost use Rattle.std.specs.Prelude.{◌<◌, ◌≤◌, ℕ, Bool, List, Option, false, length, take, IfOk, IfSome, IsOk, IsTrue, OnErr, OnOk};
+ghost use Rattle.std.specs.Io.KnownBytes.{Appends, Keeps};
 
-use crate::written::write_bytes;
 use std::fmt;
 use std::io::Write;
 
@@ -19,11 +17,13 @@ pub trait Sink {
     /// Whether no write fails. Nothing that runs can ask for it, so what is done for one that never fails is done for each.
     ghost SURE: { Bool };
 
-    /// Writes bytes. Where a write fails, a front of them was written, and not all.
-    fn write(&mut self, bytes: &[u8]) -> Result<(), Lost>
-        ensures whole { OnOk result (Appends (contents self.old) (contents self.new) bytes.now) }
-        ensures cut { OnErr result (WritesCut (contents self.old) (contents self.new) bytes.now) }
-        ensures sure { IsTrue SURE → IsOk result };
+    /// Writes some bytes, from the first on, and says how many. Where that fails, it has written none.
+    fn write(&mut self, bytes: &[u8]) -> Result<usize, Lost>
+        ensures within { IfOk result (λ count. count ≤ length bytes.now) }
+        ensures some { IfOk result (λ count. Appends (contents self.old) (contents self.new) (take count bytes.now)) }
+        ensures none { OnErr result (Keeps (contents self.old) (contents self.new)) }
+        ensures sure { IsTrue SURE → IsOk result }
+        ensures goes { IsTrue SURE → 0 < length bytes.now → IfOk result (λ count. 0 < count) };
 
     /// Writes what is displayed.
     fn tell<D: fmt::Display + Drop>(&mut self, text: D) -> Result<(), Lost>
@@ -40,9 +40,9 @@ impl<W: Write> Sink for Stream<W> {
 
     ghost SURE = { false };
 
-    fn write(&mut self, bytes: &[u8]) -> Result<(), Lost> {
-        match write_bytes(&mut self.0, bytes) {
-            Ok(()) => Ok(()),
+    fn write(&mut self, bytes: &[u8]) -> Result<usize, Lost> {
+        match self.0.write(bytes) {
+            Ok(count) => Ok(count),
             Err(_) => Err(Lost),
         }
     }

@@ -7,20 +7,18 @@ ghost use Rattle.jv_program.specs.declared.stop.Stop.TheVariants.{Output};
 use crate::sink::{Lost, Sink};
 use crate::stop::Stop;
 use jv_program_base::Outcome;
-use std::io;
-use std::io::{Error, ErrorKind, Write};
 
-/// Writes bytes, or fails where a write fails or takes none of it; what was written is then a front of
-/// them, and not all.
-pub(crate) fn write_bytes<W: Write>(to: &mut W, bytes: &[u8]) -> io::Result<()>
-    ensures whole { OnOk result (Appends (W.contents to.old) (W.contents to.new) bytes.now) }
-    ensures cut { OnErr result (WritesCut (W.contents to.old) (W.contents to.new) bytes.now) }
+/// Writes bytes, or fails where a write fails or takes none of them; what was written is then a front of them, and not all.
+fn write_bytes<O: Sink>(to: &mut O, bytes: &[u8]) -> Result<(), Lost>
+    ensures whole { OnOk result (Appends (O.contents to.old) (O.contents to.new) bytes.now) }
+    ensures cut { OnErr result (WritesCut (O.contents to.old) (O.contents to.new) bytes.now) }
+    ensures sure { IsTrue O.SURE → IsOk result }
 {
     let mut rest = bytes;
     while !rest.is_empty() {
         let count = to.write(rest)?;
         if count == 0 {
-            return Err(Error::from(ErrorKind::WriteZero));
+            return Err(Lost);
         }
         rest = &rest[count..];
     }
@@ -39,7 +37,7 @@ pub fn write_report<O: Sink>(to: &mut O, outcome: Outcome) -> Result<Outcome, St
     ensures lost { IfErr result (λ stop. stop ≡ Output) }
     ensures sure { IsTrue O.SURE → IsOk result }
 {
-    match to.write(outcome.report.as_bytes()) {
+    match write_bytes(to, outcome.report.as_bytes()) {
         Ok(()) => Ok(outcome),
         Err(Lost) => Err(Stop::Output),
     }

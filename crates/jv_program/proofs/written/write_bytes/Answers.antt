@@ -12,4 +12,4 @@ loop-rest-preserved g c =
     let (done, split, written) = c.loop-rest.invariant in
     let rest = c.loop-rest.rest.now in
     let n = c.in_ok-count.count in
-    (done ++ take n rest, moves_front _ done rest n split, Appends-trans _ _ _ _ _ written c.in_ok-count.ensures.bytes)
+    (done ++ take n rest, moves_front _ done rest n split, Appends-trans _ _ _ _ _ written (c.in_ok-count.ensures {u = tt}).some)
