@@ -1,0 +1,6 @@
+//! Numbers, with the greatest over any stretch of them.
+#![tactic(auto)]
+
+mod peaks;
+
+pub use peaks::Peaks;
