@@ -4,54 +4,48 @@ ghost use Rattle.std.specs.Prelude.{◌≡◌, ℕ, List};
 ghost use Rattle.jv_code.specs.declared.insn.Insn.TheVariants.{Invoke as InvokeInsn, InvokeInterface as InvokeInterfaceInsn};
 ghost use Rattle.jv_code.specs.declared.kinds.Invocation.TheVariants.{Special, Static, Virtual};
 ghost use Rattle.jv_link_cache.specs.Linked.{IsLinked};
-ghost use Rattle.jv_interp_members.specs.Known.{known};
+ghost use Rattle.jv_interp_members.specs.Known.{known_at};
 ghost use Rattle.jv_interp_words.specs.Going.{StaysIn};
 ghost use Rattle.jv_interp_members.specs.Methods.{AreMethods};
 ghost use Rattle.jv_interp_held.specs.Executing.{IsUnmoved, place};
 ghost use Rattle.jv_interp_instructions.specs.InGuest.{CanExecute, Executed, CanExecuteAt, ExecutedAt};
 
 use jv_code::Invocation;
-use jv_interp_held::{ClassState, Effect, Held};
-use jv_interp_members::{Methods, call_special, call_static, call_virtual};
+use jv_interp_held::{Effect, Held};
+use jv_interp_members::{Current, call_special, call_static, call_virtual};
 use jv_interp_words::Registers;
-use jv_link::{Site, Use};
+use jv_link::Use;
 use jv_link_cache::Linked;
-use jv_loader::Classes;
 use jv_meaning_machine::execution_keeps;
 use jv_store::Store;
 
 /// `invokevirtual`.
 #[inline(always)]
 pub(crate) fn execute_invokevirtual<'a, 'l, S: Store>(
-    classes: &Classes<'a>,
+    current: Current<'_, 'a>,
     linked: &mut Linked<'a>,
-    methods: &Methods<'a>,
-    site: Site,
-    states: &[ClassState],
     store: &S,
     held: &mut Held,
     words: &mut [u32],
     at: &mut Registers<'l>,
-    next: u32,
     index: u16,
 ) -> Effect
-    requires methods { AreMethods classes.now.world methods.now }
-    requires can { (texts : List (List ℕ)) × CanExecuteAt states.now (InvokeInsn Virtual index) next
-        (known classes.now.world linked.old site) texts at.old words.old held.old (S.content store.now) }
-    ensures done { (texts : List (List ℕ)) → ExecutedAt states.now (InvokeInsn Virtual index) next (known classes.now.world linked.old site)
+    requires methods { AreMethods current.classes.now.world current.methods.now }
+    requires can { (texts : List (List ℕ)) × CanExecuteAt current.states.now (InvokeInsn Virtual index) current.next
+        (known_at current linked.old) texts at.old words.old held.old (S.content store.now) }
+    ensures done { (texts : List (List ℕ)) → ExecutedAt current.entry.states.now (InvokeInsn Virtual index) current.entry.next
+        (known_at current.entry linked.old)
         texts (place at.old words.old held.old (S.content store.now)) (place at.new words.new held.new (S.content store.now)) result }
     ensures stays { StaysIn at.old at.new words.new }
     ensures unmoved { IsUnmoved result (place at.old words.old held.old (S.content store.now))
         (place at.new words.new held.new (S.content store.now)) }
     ensures cells { held.new.cells ≡ held.old.cells }
-    ensures linked { IsLinked classes.now.world linked.new }
+    ensures linked { IsLinked current.entry.classes.now.world linked.new }
 {
     execution_keeps();
     call_virtual(
-        classes,
+        current,
         linked,
-        methods,
-        site,
         store,
         held,
         words,
@@ -64,133 +58,115 @@ pub(crate) fn execute_invokevirtual<'a, 'l, S: Store>(
 /// `invokespecial`.
 #[inline(always)]
 pub(crate) fn execute_invokespecial<'a, 'l, S: Store>(
-    classes: &Classes<'a>,
+    current: Current<'_, 'a>,
     linked: &mut Linked<'a>,
-    methods: &Methods<'a>,
-    site: Site,
-    states: &[ClassState],
     store: &S,
     held: &mut Held,
     words: &mut [u32],
     at: &mut Registers<'l>,
-    next: u32,
     index: u16,
 ) -> Effect
-    requires methods { AreMethods classes.now.world methods.now }
-    requires can { (texts : List (List ℕ)) × CanExecuteAt states.now (InvokeInsn Special index) next
-        (known classes.now.world linked.old site) texts at.old words.old held.old (S.content store.now) }
-    ensures done { (texts : List (List ℕ)) → ExecutedAt states.now (InvokeInsn Special index) next (known classes.now.world linked.old site)
+    requires methods { AreMethods current.classes.now.world current.methods.now }
+    requires can { (texts : List (List ℕ)) × CanExecuteAt current.states.now (InvokeInsn Special index) current.next
+        (known_at current linked.old) texts at.old words.old held.old (S.content store.now) }
+    ensures done { (texts : List (List ℕ)) → ExecutedAt current.entry.states.now (InvokeInsn Special index) current.entry.next
+        (known_at current.entry linked.old)
         texts (place at.old words.old held.old (S.content store.now)) (place at.new words.new held.new (S.content store.now)) result }
     ensures stays { StaysIn at.old at.new words.new }
     ensures unmoved { IsUnmoved result (place at.old words.old held.old (S.content store.now))
         (place at.new words.new held.new (S.content store.now)) }
     ensures cells { held.new.cells ≡ held.old.cells }
-    ensures linked { IsLinked classes.now.world linked.new }
+    ensures linked { IsLinked current.entry.classes.now.world linked.new }
 {
     execution_keeps();
-    call_special(
-        classes, linked, methods, site, store, held, words, at, index,
-    )
+    call_special(current, linked, store, held, words, at, index)
 }
 
 /// `invokestatic`.
 #[inline(always)]
 pub(crate) fn execute_invokestatic<'a, 'l, S: Store>(
-    classes: &Classes<'a>,
+    current: Current<'_, 'a>,
     linked: &mut Linked<'a>,
-    methods: &Methods<'a>,
-    site: Site,
-    states: &[ClassState],
     store: &S,
     held: &mut Held,
     words: &mut [u32],
     at: &mut Registers<'l>,
-    next: u32,
     index: u16,
 ) -> Effect
-    requires methods { AreMethods classes.now.world methods.now }
-    requires can { (texts : List (List ℕ)) × CanExecuteAt states.now (InvokeInsn Static index) next
-        (known classes.now.world linked.old site) texts at.old words.old held.old (S.content store.now) }
-    ensures done { (texts : List (List ℕ)) → ExecutedAt states.now (InvokeInsn Static index) next (known classes.now.world linked.old site)
+    requires methods { AreMethods current.classes.now.world current.methods.now }
+    requires can { (texts : List (List ℕ)) × CanExecuteAt current.states.now (InvokeInsn Static index) current.next
+        (known_at current linked.old) texts at.old words.old held.old (S.content store.now) }
+    ensures done { (texts : List (List ℕ)) → ExecutedAt current.entry.states.now (InvokeInsn Static index) current.entry.next
+        (known_at current.entry linked.old)
         texts (place at.old words.old held.old (S.content store.now)) (place at.new words.new held.new (S.content store.now)) result }
     ensures stays { StaysIn at.old at.new words.new }
     ensures unmoved { IsUnmoved result (place at.old words.old held.old (S.content store.now))
         (place at.new words.new held.new (S.content store.now)) }
     ensures cells { held.new.cells ≡ held.old.cells }
-    ensures linked { IsLinked classes.now.world linked.new }
+    ensures linked { IsLinked current.entry.classes.now.world linked.new }
 {
     execution_keeps();
-    call_static(
-        classes, linked, methods, site, states, held, words, at, next, index,
-    )
+    call_static(current, linked, held, words, at, index)
 }
 
 /// `invokevirtual`, `invokespecial` and `invokestatic`.
 pub(crate) fn execute_invocation<'a, 'l, S: Store>(
-    classes: &Classes<'a>,
+    current: Current<'_, 'a>,
     linked: &mut Linked<'a>,
-    methods: &Methods<'a>,
-    site: Site,
-    states: &[ClassState],
     store: &S,
     held: &mut Held,
     words: &mut [u32],
     at: &mut Registers<'l>,
-    next: u32,
     how: Invocation,
     index: u16,
 ) -> Effect
-    requires methods { AreMethods classes.now.world methods.now }
-    requires can { (texts : List (List ℕ)) × CanExecuteAt states.now (InvokeInsn how index) next (known classes.now.world linked.old site)
+    requires methods { AreMethods current.classes.now.world current.methods.now }
+    requires can { (texts : List (List ℕ)) × CanExecuteAt current.states.now (InvokeInsn how index) current.next
+        (known_at current linked.old)
         texts at.old words.old held.old (S.content store.now) }
-    ensures done { (texts : List (List ℕ)) → ExecutedAt states.now (InvokeInsn how index) next (known classes.now.world linked.old site)
+    ensures done { (texts : List (List ℕ)) → ExecutedAt current.entry.states.now (InvokeInsn how index) current.entry.next
+        (known_at current.entry linked.old)
         texts (place at.old words.old held.old (S.content store.now)) (place at.new words.new held.new (S.content store.now)) result }
     ensures stays { StaysIn at.old at.new words.new }
     ensures unmoved { IsUnmoved result (place at.old words.old held.old (S.content store.now))
         (place at.new words.new held.new (S.content store.now)) }
     ensures cells { held.new.cells ≡ held.old.cells }
-    ensures linked { IsLinked classes.now.world linked.new }
+    ensures linked { IsLinked current.entry.classes.now.world linked.new }
 {
     match how {
         Invocation::Virtual => execute_invokevirtual(
-            classes, linked, methods, site, states, store, held, words, at, next, index,
+            current, linked, store, held, words, at, index,
         ),
         Invocation::Special => execute_invokespecial(
-            classes, linked, methods, site, states, store, held, words, at, next, index,
+            current, linked, store, held, words, at, index,
         ),
-        Invocation::Static => execute_invokestatic(
-            classes, linked, methods, site, states, store, held, words, at, next, index,
-        ),
+        Invocation::Static => execute_invokestatic(current, linked, store, held, words, at, index),
     }
 }
 
 /// `invokeinterface`.
 #[inline(always)]
 pub(crate) fn execute_invokeinterface<'a, 'l, S: Store>(
-    classes: &Classes<'a>,
+    current: Current<'_, 'a>,
     linked: &mut Linked<'a>,
-    methods: &Methods<'a>,
-    site: Site,
     store: &S,
     held: &Held,
     words: &[u32],
     at: &Registers<'l>,
     index: u16,
 ) -> Effect
-    requires methods { AreMethods classes.now.world methods.now }
+    requires methods { AreMethods current.classes.now.world current.methods.now }
     requires can { (next : ℕ) × (count : ℕ) × (texts : List (List ℕ)) × CanExecute (InvokeInterfaceInsn index count) next
-        (known classes.now.world linked.old site) texts at.now words.now held.now (S.content store.now) }
+        (known_at current linked.old) texts at.now words.now held.now (S.content store.now) }
     ensures done { (next : ℕ) (count : ℕ) (texts : List (List ℕ)) → Executed (InvokeInterfaceInsn index count) next
-        (known classes.now.world linked.old site) texts (place at.now words.now held.now (S.content store.now))
+        (known_at current.entry linked.old) texts (place at.now words.now held.now (S.content store.now))
         (place at.now words.now held.now (S.content store.now)) result }
-    ensures linked { IsLinked classes.now.world linked.new }
+    ensures linked { IsLinked current.entry.classes.now.world linked.new }
 {
     execution_keeps();
     call_virtual(
-        classes,
+        current,
         linked,
-        methods,
-        site,
         store,
         held,
         words,
@@ -202,25 +178,21 @@ pub(crate) fn execute_invokeinterface<'a, 'l, S: Store>(
 
 /// The same, out of line.
 pub(crate) fn execute_interface_invocation<'a, 'l, S: Store>(
-    classes: &Classes<'a>,
+    current: Current<'_, 'a>,
     linked: &mut Linked<'a>,
-    methods: &Methods<'a>,
-    site: Site,
     store: &S,
     held: &Held,
     words: &[u32],
     at: &Registers<'l>,
     index: u16,
 ) -> Effect
-    requires methods { AreMethods classes.now.world methods.now }
+    requires methods { AreMethods current.classes.now.world current.methods.now }
     requires can { (next : ℕ) × (count : ℕ) × (texts : List (List ℕ)) × CanExecute (InvokeInterfaceInsn index count) next
-        (known classes.now.world linked.old site) texts at.now words.now held.now (S.content store.now) }
+        (known_at current linked.old) texts at.now words.now held.now (S.content store.now) }
     ensures done { (next : ℕ) (count : ℕ) (texts : List (List ℕ)) → Executed (InvokeInterfaceInsn index count) next
-        (known classes.now.world linked.old site) texts (place at.now words.now held.now (S.content store.now))
+        (known_at current.entry linked.old) texts (place at.now words.now held.now (S.content store.now))
         (place at.now words.now held.now (S.content store.now)) result }
-    ensures linked { IsLinked classes.now.world linked.new }
+    ensures linked { IsLinked current.entry.classes.now.world linked.new }
 {
-    execute_invokeinterface(
-        classes, linked, methods, site, store, held, words, at, index,
-    )
+    execute_invokeinterface(current, linked, store, held, words, at, index)
 }

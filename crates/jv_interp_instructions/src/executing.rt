@@ -23,7 +23,7 @@ use crate::on_words::execute_on_words;
 use crate::pool_constants::execute_pool_constant;
 use jv_code::Insn;
 use jv_interp_held::{ClassState, Effect, Held};
-use jv_interp_members::Methods;
+use jv_interp_members::{Current, Methods};
 use jv_interp_objects::{
     Texts, aastore, anewarray, athrow, checkcast, create, instanceof, multianewarray,
 };
@@ -98,12 +98,19 @@ pub fn execute<'a, 'l, S: Store>(
         (place at.new words.new held.new (S.content store.new))) }
 {
     execution_keeps();
+    let current = Current {
+        classes,
+        methods,
+        states,
+        site,
+        next,
+    };
     match insn {
         Insn::PoolConstant(index, _form) => execute_pool_constant(
-            classes, texts, site, store, held, words, at, next, index,
+            current, texts, store, held, words, at, index,
         ),
         Insn::PoolLongConstant(index) => Ok(execute_pool_long_constant(
-            classes, site, store, held, words, at, next, index,
+            current, store, held, words, at, index,
         )),
         Insn::ArrayLoad(kind) => Ok(execute_array_load(store, held, words, at, next, kind)),
         Insn::ReferenceArrayLoad => {
@@ -112,32 +119,24 @@ pub fn execute<'a, 'l, S: Store>(
         Insn::ArrayStore(kind) => Ok(execute_array_store(store, held, words, at, next, kind)),
         Insn::ReferenceArrayStore => Ok(aastore(classes, store, held, words, at, next)),
         Insn::Field(access, index) => Ok(execute_field(
-            classes, linked, site, states, store, held, words, at, next, access, index,
+            current, linked, store, held, words, at, access, index,
         )),
         Insn::Invoke(how, index) => Ok(execute_invocation(
-            classes, linked, methods, site, states, store, held, words, at, next, how, index,
+            current, linked, store, held, words, at, how, index,
         )),
         Insn::InvokeInterface(index, _count) => Ok(execute_interface_invocation(
-            classes, linked, methods, site, store, held, words, at, index,
+            current, linked, store, held, words, at, index,
         )),
-        Insn::New(index) => create(
-            classes, linked, site, states, store, held, words, at, next, index,
-        ),
+        Insn::New(index) => create(current, linked, store, held, words, at, index),
         Insn::NewArray(element) => { execute_new_array(store, held, words, at, next, element) }
-        Insn::NewReferenceArray(index) => anewarray(
-            classes, linked, site, store, held, words, at, next, index,
-        ),
+        Insn::NewReferenceArray(index) => anewarray(current, linked, store, held, words, at, index),
         Insn::NewMultiArray(index, dimensions) => multianewarray(
-            classes, linked, site, store, held, words, at, next, index, dimensions,
+            current, linked, store, held, words, at, index, dimensions,
         ),
         Insn::ArrayLength => Ok(execute_array_length(store, held, words, at, next)),
         Insn::Throw => Ok(athrow(words, at)),
-        Insn::CheckCast(index) => Ok(checkcast(
-            classes, linked, site, store, held, words, at, next, index,
-        )),
-        Insn::InstanceOf(index) => Ok(instanceof(
-            classes, linked, site, store, held, words, at, next, index,
-        )),
+        Insn::CheckCast(index) => Ok(checkcast(current, linked, store, held, words, at, index)),
+        Insn::InstanceOf(index) => Ok(instanceof(current, linked, store, held, words, at, index)),
         _ => Ok(execute_in_words(words, at, next, insn)),
     }
 }

@@ -22,7 +22,7 @@ use crate::on_words::{execute_division, execute_return};
 use crate::pool_constants::execute_pool_constant;
 use jv_code::{FieldAccess, Insn, Invocation};
 use jv_interp_held::{ClassState, Effect, Held};
-use jv_interp_members::Methods;
+use jv_interp_members::{Current, Methods};
 use jv_interp_objects::{Texts, aastore, checkcast, create, instanceof};
 use jv_interp_words::Registers;
 use jv_link::Site;
@@ -200,13 +200,20 @@ impl Execution for FieldGets {
         next: u32,
         insn: Insn<&[u8]>,
     ) -> Result<Effect, OutOfMemory> {
+        let current = Current {
+            classes,
+            methods,
+            states,
+            site,
+            next,
+        };
         match insn {
             Insn::Field(access, index) => match access {
                 FieldAccess::GetStatic => Ok(execute_getstatic(
-                    classes, linked, site, states, store, held, words, at, next, index,
+                    current, linked, store, held, words, at, index,
                 )),
                 FieldAccess::GetField => Ok(execute_getfield(
-                    classes, linked, site, states, store, held, words, at, next, index,
+                    current, linked, store, held, words, at, index,
                 )),
                 _ => execute_apart(
                     classes, linked, methods, texts, site, states, store, held, words, at, next,
@@ -240,13 +247,20 @@ impl Execution for FieldPuts {
         next: u32,
         insn: Insn<&[u8]>,
     ) -> Result<Effect, OutOfMemory> {
+        let current = Current {
+            classes,
+            methods,
+            states,
+            site,
+            next,
+        };
         match insn {
             Insn::Field(access, index) => match access {
                 FieldAccess::PutStatic => Ok(execute_putstatic(
-                    classes, linked, site, states, store, held, words, at, next, index,
+                    current, linked, store, held, words, at, index,
                 )),
                 FieldAccess::PutField => Ok(execute_putfield(
-                    classes, linked, site, states, store, held, words, at, next, index,
+                    current, linked, store, held, words, at, index,
                 )),
                 _ => execute_apart(
                     classes, linked, methods, texts, site, states, store, held, words, at, next,
@@ -280,12 +294,19 @@ impl Execution for ConstantLoads {
         next: u32,
         insn: Insn<&[u8]>,
     ) -> Result<Effect, OutOfMemory> {
+        let current = Current {
+            classes,
+            methods,
+            states,
+            site,
+            next,
+        };
         match insn {
             Insn::PoolConstant(index, _form) => execute_pool_constant(
-                classes, texts, site, store, held, words, at, next, index,
+                current, texts, store, held, words, at, index,
             ),
             Insn::PoolLongConstant(index) => Ok(execute_pool_long_constant(
-                classes, site, store, held, words, at, next, index,
+                current, store, held, words, at, index,
             )),
             _ => execute_apart(
                 classes, linked, methods, texts, site, states, store, held, words, at, next, insn,
@@ -345,10 +366,17 @@ impl Execution for StaticCalls {
         next: u32,
         insn: Insn<&[u8]>,
     ) -> Result<Effect, OutOfMemory> {
+        let current = Current {
+            classes,
+            methods,
+            states,
+            site,
+            next,
+        };
         match insn {
             Insn::Invoke(how, index) => match how {
                 Invocation::Static => Ok(execute_invokestatic(
-                    classes, linked, methods, site, states, store, held, words, at, next, index,
+                    current, linked, store, held, words, at, index,
                 )),
                 _ => execute_apart(
                     classes, linked, methods, texts, site, states, store, held, words, at, next,
@@ -382,10 +410,17 @@ impl Execution for VirtualCalls {
         next: u32,
         insn: Insn<&[u8]>,
     ) -> Result<Effect, OutOfMemory> {
+        let current = Current {
+            classes,
+            methods,
+            states,
+            site,
+            next,
+        };
         match insn {
             Insn::Invoke(how, index) => match how {
                 Invocation::Virtual => Ok(execute_invokevirtual(
-                    classes, linked, methods, site, states, store, held, words, at, next, index,
+                    current, linked, store, held, words, at, index,
                 )),
                 _ => execute_apart(
                     classes, linked, methods, texts, site, states, store, held, words, at, next,
@@ -419,9 +454,16 @@ impl Execution for InterfaceCalls {
         next: u32,
         insn: Insn<&[u8]>,
     ) -> Result<Effect, OutOfMemory> {
+        let current = Current {
+            classes,
+            methods,
+            states,
+            site,
+            next,
+        };
         match insn {
             Insn::InvokeInterface(index, _count) => Ok(execute_invokeinterface(
-                classes, linked, methods, site, store, held, words, at, index,
+                current, linked, store, held, words, at, index,
             )),
             _ => execute_apart(
                 classes, linked, methods, texts, site, states, store, held, words, at, next, insn,
@@ -450,10 +492,17 @@ impl Execution for SpecialCalls {
         next: u32,
         insn: Insn<&[u8]>,
     ) -> Result<Effect, OutOfMemory> {
+        let current = Current {
+            classes,
+            methods,
+            states,
+            site,
+            next,
+        };
         match insn {
             Insn::Invoke(how, index) => match how {
                 Invocation::Special => Ok(execute_invokespecial(
-                    classes, linked, methods, site, states, store, held, words, at, next, index,
+                    current, linked, store, held, words, at, index,
                 )),
                 _ => execute_apart(
                     classes, linked, methods, texts, site, states, store, held, words, at, next,
@@ -518,30 +567,31 @@ impl Execution for Objects {
         insn: Insn<&[u8]>,
     ) -> Result<Effect, OutOfMemory> {
         execution_keeps();
+        let current = Current {
+            classes,
+            methods,
+            states,
+            site,
+            next,
+        };
         match insn {
             Insn::New(index) => {
                 let mut own = *at;
-                let result = create(
-                    classes, linked, site, states, store, held, words, &mut own, next, index,
-                );
+                let result = create(current, linked, store, held, words, &mut own, index);
                 at.pc = own.pc;
                 at.top = own.top;
                 result
             }
             Insn::CheckCast(index) => {
                 let mut own = *at;
-                let result = checkcast(
-                    classes, linked, site, store, held, words, &mut own, next, index,
-                );
+                let result = checkcast(current, linked, store, held, words, &mut own, index);
                 at.pc = own.pc;
                 at.top = own.top;
                 Ok(result)
             }
             Insn::InstanceOf(index) => {
                 let mut own = *at;
-                let result = instanceof(
-                    classes, linked, site, store, held, words, &mut own, next, index,
-                );
+                let result = instanceof(current, linked, store, held, words, &mut own, index);
                 at.pc = own.pc;
                 at.top = own.top;
                 Ok(result)

@@ -10,9 +10,10 @@ ghost use Rattle.jv_interp_instructions.specs.InGuest.{CanExecute, Executed};
 ghost use Rattle.jv_interp_instructions.specs.PoolConstants.{IsLongOf, IsOfSite};
 
 use jv_interp_held::{Effect, Held};
+use jv_interp_members::Current;
 use jv_interp_objects::push_long;
 use jv_interp_words::Registers;
-use jv_link::{Site, class_at};
+use jv_link::class_at;
 use jv_loader::Classes;
 use jv_meaning_machine::execution_keeps;
 use jv_store::Store;
@@ -45,18 +46,18 @@ fn long_constant<'a>(classes: &Classes<'a>, class: usize, index: u16) -> Option<
 /// `ldc2_w`.
 #[inline(always)]
 pub(crate) fn execute_pool_long_constant<'a, 'l, S: Store>(
-    classes: &Classes<'a>,
-    site: Site,
+    current: Current<'_, 'a>,
     store: &S,
     held: &Held,
     words: &mut [u32],
     at: &mut Registers<'l>,
-    next: u32,
     index: u16,
 ) -> Effect
-    requires { (k : Known) × IsOfSite classes.now.world site k × (texts : List (List ℕ)) × CanExecute (PoolLongConstantInsn index) next k
+    requires { (k : Known) × IsOfSite current.classes.now.world current.site k × (texts : List (List ℕ)) × CanExecute
+        (PoolLongConstantInsn index) current.next k
         texts at.old words.old held.now (S.content store.now) }
-    ensures done { (k : Known) (texts : List (List ℕ)) → IsOfSite classes.now.world site k → Executed (PoolLongConstantInsn index) next
+    ensures done { (k : Known) (texts : List (List ℕ)) → IsOfSite current.entry.classes.now.world current.entry.site k → Executed
+        (PoolLongConstantInsn index) current.entry.next
         k texts (place at.old words.old held.now (S.content store.now)) (place at.new words.new held.now (S.content store.now)) result }
     ensures stays { StaysIn at.old at.new words.new }
     ensures unmoved { IsUnmoved result (place at.old words.old held.now (S.content store.now))
@@ -66,8 +67,8 @@ pub(crate) fn execute_pool_long_constant<'a, 'l, S: Store>(
     // Only the clauses speak of these.
     let _store = store;
     let _held = held;
-    let Some((low, high)) = long_constant(classes, site.class, index) else {
+    let Some((low, high)) = long_constant(current.classes, current.site.class, index) else {
         unreachable!()
     };
-    push_long(words, at, next, low, high)
+    push_long(words, at, current.next, low, high)
 }

@@ -12,9 +12,10 @@ ghost use Rattle.jv_interp_instructions.specs.PoolConstants.{IsConstantOf, IsOfS
 ghost use Rattle.jv_interp_instructions.specs.declared.pool_constants.PoolConstant.TheVariants.{Int};
 
 use jv_interp_held::{Effect, Held};
+use jv_interp_members::Current;
 use jv_interp_objects::{Texts, push_int, push_string};
 use jv_interp_words::Registers;
-use jv_link::{Site, class_at};
+use jv_link::class_at;
 use jv_loader::Classes;
 use jv_meaning_machine::execution_keeps;
 use jv_store::{OutOfMemory, Store};
@@ -52,21 +53,20 @@ fn constant_of<'a>(classes: &Classes<'a>, class: usize, index: u16) -> Option<Po
 /// Where the host had no memory for a string; all is then as it was.
 #[inline(never)]
 fn execute_other_constant<'a, 'l, S: Store>(
-    classes: &Classes<'a>,
+    current: Current<'_, 'a>,
     texts: &Texts<'a>,
-    site: Site,
     store: &mut S,
     held: &mut Held,
     words: &mut [u32],
     at: &mut Registers<'l>,
-    next: u32,
     index: u16,
 ) -> Result<Effect, OutOfMemory>
-    requires can { (form : IndexForm) × (k : Known) × IsOfSite classes.now.world site k × AreTexts k.world texts.now
-        × CanExecute (PoolConstantInsn index form) next k texts.now.names at.old words.old held.old (S.content store.old) }
+    requires can { (form : IndexForm) × (k : Known) × IsOfSite current.classes.now.world current.site k × AreTexts k.world texts.now
+        × CanExecute (PoolConstantInsn index form) current.next k texts.now.names at.old words.old held.old (S.content store.old) }
     requires cells { held.old.cells ≤ S.room_left store.old }
-    ensures done { IfOk result (λ effect. (form : IndexForm) (k : Known) → IsOfSite classes.now.world site k → AreTexts k.world texts.now
-        → Executed (PoolConstantInsn index form) next k texts.now.names
+    ensures done { IfOk result (λ effect. (form : IndexForm) (k : Known)
+        → IsOfSite current.entry.classes.now.world current.entry.site k → AreTexts k.world texts.now
+        → Executed (PoolConstantInsn index form) current.entry.next k texts.now.names
         (place at.old words.old held.old (S.content store.old)) (place at.new words.new held.new (S.content store.new)) effect) }
     ensures stays { StaysIn at.old at.new words.new }
     ensures unmoved { IfOk result (λ effect. IsUnmoved effect (place at.old words.old held.old (S.content store.old))
@@ -80,12 +80,21 @@ fn execute_other_constant<'a, 'l, S: Store>(
     ensures sure { IsTrue S.SURE → IsOk result }
 {
     execution_keeps();
-    match constant_of(classes, site.class, index) {
-        Some(PoolConstant::Int(bits)) => Ok(push_int(words, at, next, bits)),
+    match constant_of(current.classes, current.site.class, index) {
+        Some(PoolConstant::Int(bits)) => Ok(push_int(words, at, current.next, bits)),
         Some(PoolConstant::String(text)) => {
-            let number = texts.number(site.class, index);
+            let number = texts.number(current.site.class, index);
             let count = texts.count(number);
-            push_string(store, held, words, at, next, number as usize, text, count)
+            push_string(
+                store,
+                held,
+                words,
+                at,
+                current.next,
+                number as usize,
+                text,
+                count,
+            )
         }
         None => unreachable!(),
     }
@@ -94,21 +103,20 @@ fn execute_other_constant<'a, 'l, S: Store>(
 /// The same, with registers of its own, so that those of the loop need no place in memory.
 #[inline(always)]
 fn execute_apart<'a, 'l, S: Store>(
-    classes: &Classes<'a>,
+    current: Current<'_, 'a>,
     texts: &Texts<'a>,
-    site: Site,
     store: &mut S,
     held: &mut Held,
     words: &mut [u32],
     at: &mut Registers<'l>,
-    next: u32,
     index: u16,
 ) -> Result<Effect, OutOfMemory>
-    requires can { (form : IndexForm) × (k : Known) × IsOfSite classes.now.world site k × AreTexts k.world texts.now
-        × CanExecute (PoolConstantInsn index form) next k texts.now.names at.old words.old held.old (S.content store.old) }
+    requires can { (form : IndexForm) × (k : Known) × IsOfSite current.classes.now.world current.site k × AreTexts k.world texts.now
+        × CanExecute (PoolConstantInsn index form) current.next k texts.now.names at.old words.old held.old (S.content store.old) }
     requires cells { held.old.cells ≤ S.room_left store.old }
-    ensures done { IfOk result (λ effect. (form : IndexForm) (k : Known) → IsOfSite classes.now.world site k → AreTexts k.world texts.now
-        → Executed (PoolConstantInsn index form) next k texts.now.names
+    ensures done { IfOk result (λ effect. (form : IndexForm) (k : Known)
+        → IsOfSite current.entry.classes.now.world current.entry.site k → AreTexts k.world texts.now
+        → Executed (PoolConstantInsn index form) current.entry.next k texts.now.names
         (place at.old words.old held.old (S.content store.old)) (place at.new words.new held.new (S.content store.new)) effect) }
     ensures stays { StaysIn at.old at.new words.new }
     ensures unmoved { IfOk result (λ effect. IsUnmoved effect (place at.old words.old held.old (S.content store.old))
@@ -122,9 +130,7 @@ fn execute_apart<'a, 'l, S: Store>(
     ensures sure { IsTrue S.SURE → IsOk result }
 {
     let mut own = *at;
-    let result = execute_other_constant(
-        classes, texts, site, store, held, words, &mut own, next, index,
-    );
+    let result = execute_other_constant(current, texts, store, held, words, &mut own, index);
     at.pc = own.pc;
     at.top = own.top;
     result
@@ -153,21 +159,20 @@ fn int_of(classes: &Classes<'_>, class: usize, index: u16) -> Option<u32>
 /// Where the host had no memory for a string; all is then as it was.
 #[inline(always)]
 pub(crate) fn execute_pool_constant<'a, 'l, S: Store>(
-    classes: &Classes<'a>,
+    current: Current<'_, 'a>,
     texts: &Texts<'a>,
-    site: Site,
     store: &mut S,
     held: &mut Held,
     words: &mut [u32],
     at: &mut Registers<'l>,
-    next: u32,
     index: u16,
 ) -> Result<Effect, OutOfMemory>
-    requires can { (form : IndexForm) × (k : Known) × IsOfSite classes.now.world site k × AreTexts k.world texts.now
-        × CanExecute (PoolConstantInsn index form) next k texts.now.names at.old words.old held.old (S.content store.old) }
+    requires can { (form : IndexForm) × (k : Known) × IsOfSite current.classes.now.world current.site k × AreTexts k.world texts.now
+        × CanExecute (PoolConstantInsn index form) current.next k texts.now.names at.old words.old held.old (S.content store.old) }
     requires cells { held.old.cells ≤ S.room_left store.old }
-    ensures done { IfOk result (λ effect. (form : IndexForm) (k : Known) → IsOfSite classes.now.world site k → AreTexts k.world texts.now
-        → Executed (PoolConstantInsn index form) next k texts.now.names
+    ensures done { IfOk result (λ effect. (form : IndexForm) (k : Known)
+        → IsOfSite current.entry.classes.now.world current.entry.site k → AreTexts k.world texts.now
+        → Executed (PoolConstantInsn index form) current.entry.next k texts.now.names
         (place at.old words.old held.old (S.content store.old)) (place at.new words.new held.new (S.content store.new)) effect) }
     ensures stays { StaysIn at.old at.new words.new }
     ensures unmoved { IfOk result (λ effect. IsUnmoved effect (place at.old words.old held.old (S.content store.old))
@@ -181,8 +186,8 @@ pub(crate) fn execute_pool_constant<'a, 'l, S: Store>(
     ensures sure { IsTrue S.SURE → IsOk result }
 {
     execution_keeps();
-    if let Some(bits) = int_of(classes, site.class, index) {
-        return Ok(push_int(words, at, next, bits));
+    if let Some(bits) = int_of(current.classes, current.site.class, index) {
+        return Ok(push_int(words, at, current.next, bits));
     }
-    execute_apart(classes, texts, site, store, held, words, at, next, index)
+    execute_apart(current, texts, store, held, words, at, index)
 }

@@ -7,6 +7,7 @@ use Rattle.jv_link.specs.Seen.{seen_site}
 use Rattle.jv_link_cache.specs.declared.linked.Linked.{Linked}
 use Rattle.jv_link_cache.specs.Linked.{IsLinked}
 use Rattle.jv_meaning_machine.specs.Effects.{Context}
+use Rattle.jv_interp_members.specs.declared.current.Current.{Current}
 use Rattle.jv_interp_heap.specs.SystemNumbers.{IsGuestsWorld}
 
 pub record Known : Type 0 where
@@ -16,6 +17,10 @@ pub record Known : Type 0 where
 
 abbrev pub known : World → Linked → Site → Known
 known world linked site = record { world = world; linked = linked; site = site }
+
+-- what is known at the method that is current
+abbrev pub known_at : Current → Linked → Known
+known_at current linked = known current.classes.now.world linked current.site
 
 -- It is known of the classes that the machine knows, at the method that it runs. There are at most 1,057 classes (own): the system's 33
 -- and those of 1,024 files.

@@ -7,17 +7,16 @@ ghost use Rattle.jv_interp_words.specs.Going.{StaysIn};
 ghost use Rattle.jv_interp_heap.specs.ObjectsInBlocks.{Blocks};
 ghost use Rattle.jv_interp_held.specs.Executing.{IsUnmoved, place};
 ghost use Rattle.jv_interp_members.specs.Methods.{AreMethods};
-ghost use Rattle.jv_interp_members.specs.Known.{known};
+ghost use Rattle.jv_interp_members.specs.Known.{known_at};
 ghost use Rattle.jv_interp_members.specs.Calling.{IsVirtual, CanCall, Calls, CanCallStatic, CallsStatic};
 
+use crate::current::Current;
 use crate::linking::{is_ready, resolved, run};
-use crate::methods::Methods;
 use jv_interp_heap::NULL_POINTER;
-use jv_interp_held::{ClassState, Effect, HOST_IO, Held, WRITE, read, write};
+use jv_interp_held::{Effect, HOST_IO, Held, WRITE, read, write};
 use jv_interp_words::Registers;
-use jv_link::{Site, Use};
+use jv_link::Use;
 use jv_link_cache::Linked;
-use jv_loader::Classes;
 use jv_meaning_typing::method_is_called;
 use jv_store::Store;
 
@@ -25,46 +24,49 @@ use jv_store::Store;
 /// host/Io does is done at once.
 #[inline(always)]
 pub fn call_static<'a, 'l>(
-    classes: &Classes<'a>,
+    current: Current<'_, 'a>,
     linked: &mut Linked<'a>,
-    methods: &Methods<'a>,
-    site: Site,
-    states: &[ClassState],
     held: &mut Held,
     words: &mut [u32],
     at: &mut Registers<'l>,
-    next: u32,
     index: u16,
 ) -> Effect
-    requires methods { AreMethods classes.now.world methods.now }
-    requires can { CanCallStatic index next (known classes.now.world linked.old site) states.now at.old words.old held.old }
-    ensures calls { CallsStatic index next (known classes.now.world linked.old site) states.now at.old words.old held.old
+    requires methods { AreMethods current.classes.now.world current.methods.now }
+    requires can { CanCallStatic index current.next (known_at current linked.old) current.states.now at.old words.old held.old }
+    ensures calls { CallsStatic index current.entry.next (known_at current.entry linked.old) current.entry.states.now at.old words.old
+        held.old
         at.new words.new held.new result }
     ensures stays { StaysIn at.old at.new words.new }
     ensures unmoved { (blocks : Blocks) → IsUnmoved result (place at.old words.old held.old blocks)
         (place at.new words.new held.new blocks) }
     ensures same { held.new ≡ record held.old { output = held.new.output; output_left = held.new.output_left; read = held.new.read } }
-    ensures linked { IsLinked classes.now.world linked.new }
+    ensures linked { IsLinked current.entry.classes.now.world linked.new }
 {
     method_is_called();
-    let called = match resolved(classes, linked, site, Use::Invokestatic, index) {
+    let called = match resolved(
+        current.classes,
+        linked,
+        current.site,
+        Use::Invokestatic,
+        index,
+    ) {
         Ok(called) => called,
         Err(class) => return Effect::Raises { class },
     };
     let place = called.target.declared;
-    if !is_ready(states, place.class) {
+    if !is_ready(current.states, place.class) {
         return Effect::Begins {
             class: place.class as u32,
         };
     }
     if place.class == HOST_IO {
         if place.member == WRITE {
-            return write(held, words, at, next);
+            return write(held, words, at, current.next);
         }
-        return read(held, words, at, next);
+        return read(held, words, at, current.next);
     }
     Effect::Enters {
-        method: methods.number_of(place),
+        method: current.methods.number_of(place),
         words: called.argument_words as u32,
     }
 }
@@ -73,10 +75,8 @@ pub fn call_static<'a, 'l>(
 /// entered on the object below the arguments.
 #[inline(always)]
 pub fn call_virtual<'a, 'l, S: Store>(
-    classes: &Classes<'a>,
+    current: Current<'_, 'a>,
     linked: &mut Linked<'a>,
-    methods: &Methods<'a>,
-    site: Site,
     store: &S,
     held: &Held,
     words: &[u32],
@@ -85,15 +85,15 @@ pub fn call_virtual<'a, 'l, S: Store>(
     index: u16,
 ) -> Effect
     requires kind { IsVirtual how }
-    requires methods { AreMethods classes.now.world methods.now }
-    requires can { CanCall how index (known classes.now.world linked.old site) at.now words.now held.now (S.content store.now) }
-    ensures calls { Calls how index (known classes.now.world linked.old site) at.now words.now held.now (S.content store.now) result }
-    ensures linked { IsLinked classes.now.world linked.new }
+    requires methods { AreMethods current.classes.now.world current.methods.now }
+    requires can { CanCall how index (known_at current linked.old) at.now words.now held.now (S.content store.now) }
+    ensures calls { Calls how index (known_at current.entry linked.old) at.now words.now held.now (S.content store.now) result }
+    ensures linked { IsLinked current.entry.classes.now.world linked.new }
 {
     // Only the clauses speak of it.
     let _held = held;
     method_is_called();
-    let called = match resolved(classes, linked, site, how, index) {
+    let called = match resolved(current.classes, linked, current.site, how, index) {
         Ok(called) => called,
         Err(class) => return Effect::Raises { class },
     };
@@ -104,7 +104,15 @@ pub fn call_virtual<'a, 'l, S: Store>(
         };
     }
     let word = store.get(object, 0);
-    match run(classes, linked, methods, site, how, &called.target, word) {
+    match run(
+        current.classes,
+        linked,
+        current.methods,
+        current.site,
+        how,
+        &called.target,
+        word,
+    ) {
         Ok(method) => Effect::Enters {
             method,
             words: called.argument_words as u32,
@@ -117,26 +125,30 @@ pub fn call_virtual<'a, 'l, S: Store>(
 /// the current class has it above itself.
 #[inline(always)]
 pub fn call_special<'a, 'l, S: Store>(
-    classes: &Classes<'a>,
+    current: Current<'_, 'a>,
     linked: &mut Linked<'a>,
-    methods: &Methods<'a>,
-    site: Site,
     store: &S,
     held: &Held,
     words: &[u32],
     at: &Registers<'l>,
     index: u16,
 ) -> Effect
-    requires methods { AreMethods classes.now.world methods.now }
-    requires can { CanCall Invokespecial index (known classes.now.world linked.old site) at.now words.now held.now (S.content store.now) }
-    ensures calls { Calls Invokespecial index (known classes.now.world linked.old site) at.now words.now held.now
+    requires methods { AreMethods current.classes.now.world current.methods.now }
+    requires can { CanCall Invokespecial index (known_at current linked.old) at.now words.now held.now (S.content store.now) }
+    ensures calls { Calls Invokespecial index (known_at current.entry linked.old) at.now words.now held.now
         (S.content store.now) result }
-    ensures linked { IsLinked classes.now.world linked.new }
+    ensures linked { IsLinked current.entry.classes.now.world linked.new }
 {
     // Only the clauses speak of it.
     let _held = held;
     method_is_called();
-    let called = match resolved(classes, linked, site, Use::Invokespecial, index) {
+    let called = match resolved(
+        current.classes,
+        linked,
+        current.site,
+        Use::Invokespecial,
+        index,
+    ) {
         Ok(called) => called,
         Err(class) => return Effect::Raises { class },
     };
@@ -148,16 +160,16 @@ pub fn call_special<'a, 'l, S: Store>(
     }
     if called.is_init {
         return Effect::Enters {
-            method: methods.number_of(called.target.declared),
+            method: current.methods.number_of(called.target.declared),
             words: called.argument_words as u32,
         };
     }
     let word = store.get(object, 0);
     match run(
-        classes,
+        current.classes,
         linked,
-        methods,
-        site,
+        current.methods,
+        current.site,
         Use::Invokespecial,
         &called.target,
         word,

@@ -4,6 +4,7 @@
 #![tactic(auto)]
 
 mod calls;
+mod current;
 mod errors;
 mod fields;
 mod instance_fields;
@@ -12,6 +13,7 @@ mod methods;
 mod statics;
 
 pub use calls::{call_special, call_static, call_virtual};
+pub use current::Current;
 pub use errors::number_of_error;
 pub use fields::{getfield, getstatic, putfield, putstatic};
 pub use linking::is_ready;

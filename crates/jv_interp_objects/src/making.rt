@@ -3,7 +3,7 @@
 ghost use Rattle.std.specs.Prelude.{◌≡◌, ◌+◌, ◌<◌, ◌≤◌, IfOk, IsOk, IsTrue, OnOk, OnErr};
 ghost use Rattle.jv_link_cache.specs.Linked.{IsLinked};
 ghost use Rattle.jv_interp_words.specs.Going.{StaysIn};
-ghost use Rattle.jv_interp_members.specs.Known.{known};
+ghost use Rattle.jv_interp_members.specs.Known.{known_at};
 ghost use Rattle.jv_interp_held.specs.Executing.{IsUnmoved, place};
 ghost use Rattle.jv_interp_objects.specs.Making.{CanMakeObject, MakesObject, CanMakeArray, MakesArray, CanMakeArrays, MakesArrays};
 ghost use Rattle.jv_interp_objects.specs.Inside.Slots.{IsSlots};
@@ -13,12 +13,10 @@ use crate::multiple::new_nested_array;
 use crate::naming::{class_named_new, named};
 use crate::objects::new_object;
 use crate::types::{NumberedType, array_word};
-use jv_interp_held::{ClassState, Effect, Held};
-use jv_interp_members::is_ready;
+use jv_interp_held::{Effect, Held};
+use jv_interp_members::{Current, is_ready};
 use jv_interp_words::Registers;
-use jv_link::Site;
 use jv_link_cache::Linked;
-use jv_loader::Classes;
 use jv_store::{OutOfMemory, Store};
 use jv_text::types_agree;
 
@@ -32,21 +30,18 @@ const LONG: u32 = 5;
 ///
 /// Where the host had no memory for it; all is then as it was, but for what linking has found.
 pub fn create<'a, 'l, S: Store>(
-    classes: &Classes<'a>,
+    current: Current<'_, 'a>,
     linked: &mut Linked<'a>,
-    site: Site,
-    states: &[ClassState],
     store: &mut S,
     held: &mut Held,
     words: &mut [u32],
     at: &mut Registers<'l>,
-    next: u32,
     index: u16,
 ) -> Result<Effect, OutOfMemory>
-    requires can { CanMakeObject index next (known classes.now.world linked.old site) states.now at.old words.old held.old
+    requires can { CanMakeObject index current.next (known_at current linked.old) current.states.now at.old words.old held.old
         (S.content store.old) }
     requires cells { held.old.cells ≤ S.room_left store.old }
-    ensures makes { IfOk result (MakesObject index next (known classes.now.world linked.old site) states.now
+    ensures makes { IfOk result (MakesObject index current.entry.next (known_at current.entry linked.old) current.entry.states.now
         (place at.old words.old held.old (S.content store.old)) (place at.new words.new held.new (S.content store.new))) }
     ensures stays { StaysIn at.old at.new words.new }
     ensures unmoved { IfOk result (λ effect. IsUnmoved effect (place at.old words.old held.old (S.content store.old))
@@ -58,13 +53,13 @@ pub fn create<'a, 'l, S: Store>(
     ensures refused { OnErr result (S.content store.new ≡ S.content store.old) }
     ensures refused_room { OnErr result (S.room_left store.new ≡ S.room_left store.old) }
     ensures sure { IsTrue S.SURE → IsOk result }
-    ensures linked { IsLinked classes.now.world linked.new }
+    ensures linked { IsLinked current.entry.classes.now.world linked.new }
 {
-    let class = match class_named_new(classes, linked, site, index) {
+    let class = match class_named_new(current.classes, linked, current.site, index) {
         Ok(class) => class,
         Err(class) => return Ok(Effect::Raises { class }),
     };
-    if !is_ready(states, class) {
+    if !is_ready(current.states, class) {
         return Ok(Effect::Begins {
             class: class as u32,
         });
@@ -75,7 +70,15 @@ pub fn create<'a, 'l, S: Store>(
             address: held.out_of_memory,
         });
     }
-    new_object(store, held, words, at, next, class as u32, size as u32)
+    new_object(
+        store,
+        held,
+        words,
+        at,
+        current.next,
+        class as u32,
+        size as u32,
+    )
 }
 
 /// anewarray: a new array of what the constant at an index names, of as many components as the int on top says, comes to stand in its
@@ -85,19 +88,17 @@ pub fn create<'a, 'l, S: Store>(
 ///
 /// Where the host had no memory for it; all is then as it was, but for what linking has found.
 pub fn anewarray<'a, 'l, S: Store>(
-    classes: &Classes<'a>,
+    current: Current<'_, 'a>,
     linked: &mut Linked<'a>,
-    site: Site,
     store: &mut S,
     held: &mut Held,
     words: &mut [u32],
     at: &mut Registers<'l>,
-    next: u32,
     index: u16,
 ) -> Result<Effect, OutOfMemory>
-    requires can { CanMakeArray index next (known classes.now.world linked.old site) at.old words.old held.old (S.content store.old) }
+    requires can { CanMakeArray index current.next (known_at current linked.old) at.old words.old held.old (S.content store.old) }
     requires cells { held.old.cells ≤ S.room_left store.old }
-    ensures makes { IfOk result (MakesArray index next (known classes.now.world linked.old site)
+    ensures makes { IfOk result (MakesArray index current.entry.next (known_at current.entry linked.old)
         (place at.old words.old held.old (S.content store.old)) (place at.new words.new held.new (S.content store.new))) }
     ensures stays { StaysIn at.old at.new words.new }
     ensures unmoved { IfOk result (λ effect. IsUnmoved effect (place at.old words.old held.old (S.content store.old))
@@ -109,14 +110,14 @@ pub fn anewarray<'a, 'l, S: Store>(
     ensures refused { OnErr result (S.content store.new ≡ S.content store.old) }
     ensures refused_room { OnErr result (S.room_left store.new ≡ S.room_left store.old) }
     ensures sure { IsTrue S.SURE → IsOk result }
-    ensures linked { IsLinked classes.now.world linked.new }
+    ensures linked { IsLinked current.entry.classes.now.world linked.new }
 {
-    let components = match named(classes, linked, site, index) {
+    let components = match named(current.classes, linked, current.site, index) {
         Ok(components) => components,
         Err(class) => return Ok(Effect::Raises { class }),
     };
     let word = array_word(components);
-    new_array(store, held, words, at, next, word, 1)
+    new_array(store, held, words, at, current.next, word, 1)
 }
 
 /// How many words each component of the innermost arrays has, where arrays of a type are made in so many of its dimensions.
@@ -137,22 +138,20 @@ fn inner_slots(array: NumberedType, dimensions: u32) -> u32
 ///
 /// Where the host had no memory for them; all is then as it was, but for what linking has found.
 pub fn multianewarray<'a, 'l, S: Store>(
-    classes: &Classes<'a>,
+    current: Current<'_, 'a>,
     linked: &mut Linked<'a>,
-    site: Site,
     store: &mut S,
     held: &mut Held,
     words: &mut [u32],
     at: &mut Registers<'l>,
-    next: u32,
     index: u16,
     dimensions: u8,
 ) -> Result<Effect, OutOfMemory>
     requires some { 1 ≤ dimensions }
-    requires can { CanMakeArrays index dimensions next (known classes.now.world linked.old site) at.old words.old held.old
+    requires can { CanMakeArrays index dimensions current.next (known_at current linked.old) at.old words.old held.old
         (S.content store.old) }
     requires cells { held.old.cells ≤ S.room_left store.old }
-    ensures makes { IfOk result (MakesArrays index dimensions next (known classes.now.world linked.old site)
+    ensures makes { IfOk result (MakesArrays index dimensions current.entry.next (known_at current.entry linked.old)
         (place at.old words.old held.old (S.content store.old)) (place at.new words.new held.new (S.content store.new))) }
     ensures stays { StaysIn at.old at.new words.new }
     ensures unmoved { IfOk result (λ effect. IsUnmoved effect (place at.old words.old held.old (S.content store.old))
@@ -164,10 +163,10 @@ pub fn multianewarray<'a, 'l, S: Store>(
     ensures refused { OnErr result (S.content store.new ≡ S.content store.old) }
     ensures refused_room { OnErr result (S.room_left store.new ≡ S.room_left store.old) }
     ensures sure { IsTrue S.SURE → IsOk result }
-    ensures linked { IsLinked classes.now.world linked.new }
+    ensures linked { IsLinked current.entry.classes.now.world linked.new }
 {
     types_agree();
-    let array = match named(classes, linked, site, index) {
+    let array = match named(current.classes, linked, current.site, index) {
         Ok(array) => array,
         Err(class) => return Ok(Effect::Raises { class }),
     };
@@ -181,7 +180,7 @@ pub fn multianewarray<'a, 'l, S: Store>(
         held,
         words,
         at,
-        next,
+        current.next,
         word,
         slots,
         dimensions as usize,

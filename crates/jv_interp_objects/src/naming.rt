@@ -43,6 +43,7 @@ fn element_number(table: &ClassTable<'_>, element: Element<&[u8]>, class: Option
     ensures number { IsThere table.now (seen_element element.entry) → IsElement table.now (seen_element element.entry) result }
     ensures few { result < 8 + length table.now }
 {
+    // It brings in that classes are few.
     let _few = table;
     match element {
         Element::Base(base) => base_number(base),

@@ -10,13 +10,13 @@ use Rattle.jv_interp_members.proofs.calls.call_virtual.Goals as goal
 
 pub returns-in-Err-clause-calls : goal.returns-in-Err-clause-calls
 returns-in-Err-clause-calls g c = λ next texts x addresses done below h.
-    let k = known c.args.classes.now.world c.args.linked.now c.args.site in
+    let k = known c.args.current.classes.now.world c.args.linked.now c.args.current.site in
     let here = place c.args.at.now c.args.words.now c.args.held.now (g.S.Store.content c.args.store.now) in
     failed c.args.how c.args.index next k here texts x addresses done below h c.in-Err.class c.in-Err.ensures.found
 
 pub overflow_sub-object : goal.overflow_sub-object
 overflow_sub-object g c =
-    let k = known c.args.classes.now.world c.args.linked.now c.args.site in
+    let k = known c.args.current.classes.now.world c.args.linked.now c.args.current.site in
     let here = place c.args.at.now c.args.words.now c.args.held.now (g.S.Store.content c.args.store.now) in
     let u = instance_use c.args.how c.requires.kind in
     let w = c.requires.can in
@@ -24,7 +24,7 @@ overflow_sub-object g c =
 
 pub bounds-words-at : goal.bounds-words-at
 bounds-words-at g c =
-    let k = known c.args.classes.now.world c.args.linked.now c.args.site in
+    let k = known c.args.current.classes.now.world c.args.linked.now c.args.current.site in
     let here = place c.args.at.now c.args.words.now c.args.held.now (g.S.Store.content c.args.store.now) in
     let u = instance_use c.args.how c.requires.kind in
     let w = c.requires.can in
@@ -35,14 +35,14 @@ bounds-words-at g c =
 
 pub returns-then-object-eq0-clause-calls : goal.returns-then-object-eq0-clause-calls
 returns-then-object-eq0-clause-calls g c = λ next texts x addresses done below h.
-    let k = known c.args.classes.now.world c.args.linked.now c.args.site in
+    let k = known c.args.current.classes.now.world c.args.linked.now c.args.current.site in
     let here = place c.args.at.now c.args.words.now c.args.held.now (g.S.Store.content c.args.store.now) in
     let u = instance_use c.args.how c.requires.kind in
     raises_null c.args.how c.args.index next k here texts x addresses done below h u c.method_is_called.ensures c.in-Ok.called c.in-Ok.ensures.found c.in-Ok.ensures.called c.if-object-eq0.true
 
 pub get-word-requires : goal.get-word-requires
 get-word-requires g c =
-    let k = known c.args.classes.now.world c.args.linked.now c.args.site in
+    let k = known c.args.current.classes.now.world c.args.linked.now c.args.current.site in
     let here = place c.args.at.now c.args.words.now c.args.held.now (g.S.Store.content c.args.store.now) in
     let u = instance_use c.args.how c.requires.kind in
     let w = c.requires.can in
@@ -54,18 +54,18 @@ get-word-requires g c =
 
 pub run-requires-clause-site : goal.run-requires-clause-site
 run-requires-clause-site g c =
-    let k = known c.args.classes.now.world c.args.linked.now c.args.site in
+    let k = known c.args.current.classes.now.world c.args.linked.now c.args.current.site in
     let here = place c.args.at.now c.args.words.now c.args.held.now (g.S.Store.content c.args.store.now) in
     let w = c.requires.can in
     is_site c.args.how c.args.index w.next k here w.texts w.c w.addresses w.done w.below w.calls
 
 pub run-requires-clause-object : goal.run-requires-clause-object
 run-requires-clause-object g c =
-    let k = known c.args.classes.now.world c.args.linked.now c.args.site in
+    let k = known c.args.current.classes.now.world c.args.linked.now c.args.current.site in
     let here = place c.args.at.now c.args.words.now c.args.held.now (g.S.Store.content c.args.store.now) in
     let u = instance_use c.args.how c.requires.kind in
     let w = c.requires.can in
-    subst (λ (n : ℕ). IsObject c.args.classes.now.world (class_number n)) (sym c.get-word.ensures)
+    subst (λ (n : ℕ). IsObject c.args.current.classes.now.world (class_number n)) (sym c.get-word.ensures)
     (is_object c.args.how c.args.index w.next k here w.texts w.c w.addresses w.done w.below w.calls u c.method_is_called.ensures c.in-Ok.called c.in-Ok.ensures.found c.in-Ok.ensures.called
     (receives c.args.how c.args.index w.next k here w.texts w.c w.addresses w.done w.below w.calls u c.method_is_called.ensures c.in-Ok.called
     c.in-Ok.ensures.found c.in-Ok.ensures.called c.if-object-eq0.false)
@@ -74,7 +74,7 @@ run-requires-clause-object g c =
 
 pub overflow_cast-result : goal.overflow_cast-result
 overflow_cast-result g c =
-    let k = known c.args.classes.now.world c.args.linked.now c.args.site in
+    let k = known c.args.current.classes.now.world c.args.linked.now c.args.current.site in
     let here = place c.args.at.now c.args.words.now c.args.held.now (g.S.Store.content c.args.store.now) in
     let u = instance_use c.args.how c.requires.kind in
     let w = c.requires.can in
@@ -83,7 +83,7 @@ overflow_cast-result g c =
 
 pub returns-in-Ok-run-clause-calls : goal.returns-in-Ok-run-clause-calls
 returns-in-Ok-run-clause-calls g c = λ next texts x addresses done below h.
-    let k = known c.args.classes.now.world c.args.linked.now c.args.site in
+    let k = known c.args.current.classes.now.world c.args.linked.now c.args.current.site in
     let here = place c.args.at.now c.args.words.now c.args.held.now (g.S.Store.content c.args.store.now) in
     let u = instance_use c.args.how c.requires.kind in
     runs c.args.how c.args.index next k here texts x addresses done below h u c.method_is_called.ensures c.in-Ok.called c.in-Ok.ensures.found c.in-Ok.ensures.called
@@ -91,11 +91,11 @@ returns-in-Ok-run-clause-calls g c = λ next texts x addresses done below h.
     c.in-Ok.ensures.called c.if-object-eq0.false) (virtual_does c.args.how c.args.index next k here texts x addresses done below h u
     c.method_is_called.ensures c.in-Ok.called c.in-Ok.ensures.found c.in-Ok.ensures.called (virtual_use c.args.how c.requires.kind))
     c.in-Ok-run.method
-    (subst (λ (n : ℕ). IsRun c.args.classes.now.world c.args.site c.args.how c.in-Ok.called.target n (Ok c.in-Ok-run.method)) c.get-word.ensures c.in-Ok-run.ensures.run)
+    (subst (λ (n : ℕ). IsRun c.args.current.classes.now.world c.args.current.site c.args.how c.in-Ok.called.target n (Ok c.in-Ok-run.method)) c.get-word.ensures c.in-Ok-run.ensures.run)
 
 pub returns-in-Err-run-clause-calls : goal.returns-in-Err-run-clause-calls
 returns-in-Err-run-clause-calls g c = λ next texts x addresses done below h.
-    let k = known c.args.classes.now.world c.args.linked.now c.args.site in
+    let k = known c.args.current.classes.now.world c.args.linked.now c.args.current.site in
     let here = place c.args.at.now c.args.words.now c.args.held.now (g.S.Store.content c.args.store.now) in
     let u = instance_use c.args.how c.requires.kind in
     refused c.args.how c.args.index next k here texts x addresses done below h u c.method_is_called.ensures c.in-Ok.called c.in-Ok.ensures.found c.in-Ok.ensures.called
@@ -103,4 +103,4 @@ returns-in-Err-run-clause-calls g c = λ next texts x addresses done below h.
     c.in-Ok.ensures.called c.if-object-eq0.false) (virtual_does c.args.how c.args.index next k here texts x addresses done below h u
     c.method_is_called.ensures c.in-Ok.called c.in-Ok.ensures.found c.in-Ok.ensures.called (virtual_use c.args.how c.requires.kind))
     c.in-Err-run.class
-    (subst (λ (n : ℕ). IsRun c.args.classes.now.world c.args.site c.args.how c.in-Ok.called.target n (Err c.in-Err-run.class)) c.get-word.ensures c.in-Err-run.ensures.run)
+    (subst (λ (n : ℕ). IsRun c.args.current.classes.now.world c.args.current.site c.args.how c.in-Ok.called.target n (Err c.in-Err-run.class)) c.get-word.ensures c.in-Err-run.ensures.run)

@@ -2,47 +2,53 @@ use Rattle.std.proofs.Common.{◌≡◌, ℕ, Bool, refl, sym, ap, ◌∙◌, ar
 use Rattle.jv_code.specs.declared.kinds.FieldAccess.TheVariants as access
 use Rattle.jv_interp_members.specs.Known.{known}
 use Rattle.jv_interp_held.specs.Executing.{place}
-use Rattle.jv_interp_members.proofs.UsedAtSite.{failed, d, class_at, words_are, begins_get, getting_static}
+use Rattle.jv_interp_members.proofs.UsedAtSite.{has_operand, failed, d, class_at, words_are, begins_get, getting_static}
 use Rattle.jv_interp_members.proofs.fields.getstatic.Goals as goal
+
+pub used-requires-clause-index : goal.used-requires-clause-index
+used-requires-clause-index c =
+    let w = c.requires in
+    has_operand access.GetStatic c.args.index c.args.current.next (known c.args.current.classes.now.world c.args.linked.now c.args.current.site)
+    (place c.args.at.now c.args.words.now c.args.held.now w.blocks) w.texts w.c w.addresses w.done w.below w.uses.uses
 
 pub returns-in-Err-clause-uses : goal.returns-in-Err-clause-uses
 returns-in-Err-clause-uses c = λ blocks texts x addresses done below h.
-    let k = known c.args.classes.now.world c.args.linked.now c.args.site in
+    let k = known c.args.current.classes.now.world c.args.linked.now c.args.current.site in
     let here = place c.args.at.now c.args.words.now c.args.held.now blocks in
-    failed access.GetStatic c.args.index c.args.next k here texts x addresses done below h.uses c.in-Err.class c.in-Err.ensures.found
+    failed access.GetStatic c.args.index c.args.current.next k here texts x addresses done below h.uses c.in-Err.class c.in-Err.ensures.found
 
 pub returns-then-not-is_ready-clause-uses : goal.returns-then-not-is_ready-clause-uses
 returns-then-not-is_ready-clause-uses c = λ blocks texts x addresses done below h.
-    let k = known c.args.classes.now.world c.args.linked.now c.args.site in
+    let k = known c.args.current.classes.now.world c.args.linked.now c.args.current.site in
     let here = place c.args.at.now c.args.words.now c.args.held.now blocks in
-    begins_get access.GetStatic c.args.index c.args.next k here texts x addresses done below h.uses c.field_is_used.ensures c.in-Ok.field c.in-Ok.ensures.found c.in-Ok.ensures.used refl
-    (sym (c.is_ready.ensures k.world x.states (d access.GetStatic c.args.index c.args.next k here texts x addresses done below h.uses
+    begins_get access.GetStatic c.args.index c.args.current.next k here texts x addresses done below h.uses c.field_is_used.ensures c.in-Ok.field c.in-Ok.ensures.found c.in-Ok.ensures.used refl
+    (sym (c.is_ready.ensures k.world x.states (d access.GetStatic c.args.index c.args.current.next k here texts x addresses done below h.uses
     c.field_is_used.ensures c.in-Ok.field c.in-Ok.ensures.found c.in-Ok.ensures.used).by h.states_are
-    (class_at access.GetStatic c.args.index c.args.next k here texts x addresses done below h.uses c.field_is_used.ensures c.in-Ok.field
+    (class_at access.GetStatic c.args.index c.args.current.next k here texts x addresses done below h.uses c.field_is_used.ensures c.in-Ok.field
     c.in-Ok.ensures.found c.in-Ok.ensures.used)) ∙ c.if-not-is_ready.true)
 
 pub get_long_static-requires : goal.get_long_static-requires
 get_long_static-requires c =
-    let k = known c.args.classes.now.world c.args.linked.now c.args.site in
+    let k = known c.args.current.classes.now.world c.args.linked.now c.args.current.site in
     let w = c.requires in
     let here = place c.args.at.now c.args.words.now c.args.held.now w.blocks in
     record {
       blocks = w.blocks;
       texts = w.texts;
       c = w.c;
-      d = d access.GetStatic c.args.index c.args.next k here w.texts w.c w.addresses w.done
+      d = d access.GetStatic c.args.index c.args.current.next k here w.texts w.c w.addresses w.done
           w.below w.uses.uses c.field_is_used.ensures c.in-Ok.field c.in-Ok.ensures.found c.in-Ok.ensures.used;
       addresses = w.addresses;
       done =
           w.done;
       below = w.below;
-      gets = getting_static access.GetStatic c.args.index c.args.next k here w.texts w.c w.addresses w.done w.below
+      gets = getting_static access.GetStatic c.args.index c.args.current.next k here w.texts w.c w.addresses w.done w.below
           w.uses.uses c.field_is_used.ensures c.in-Ok.field c.in-Ok.ensures.found c.in-Ok.ensures.used refl
-          (sym (c.is_ready.ensures k.world w.c.states (d access.GetStatic c.args.index c.args.next k here w.texts w.c w.addresses w.done w.below
+          (sym (c.is_ready.ensures k.world w.c.states (d access.GetStatic c.args.index c.args.current.next k here w.texts w.c w.addresses w.done w.below
           w.uses.uses c.field_is_used.ensures c.in-Ok.field c.in-Ok.ensures.found c.in-Ok.ensures.used).by w.uses.states_are
-          (class_at access.GetStatic c.args.index c.args.next k here w.texts w.c w.addresses w.done w.below w.uses.uses c.field_is_used.ensures
+          (class_at access.GetStatic c.args.index c.args.current.next k here w.texts w.c w.addresses w.done w.below w.uses.uses c.field_is_used.ensures
           c.in-Ok.field c.in-Ok.ensures.found c.in-Ok.ensures.used)) ∙ c.if-not-is_ready.false) 2
-          (words_are access.GetStatic c.args.index c.args.next k here w.texts w.c w.addresses w.done w.below w.uses.uses c.field_is_used.ensures
+          (words_are access.GetStatic c.args.index c.args.current.next k here w.texts w.c w.addresses w.done w.below w.uses.uses c.field_is_used.ensures
           c.in-Ok.field c.in-Ok.ensures.found c.in-Ok.ensures.used c.is_long.result c.is_long.ensures ∙ ap (λ (b : Bool). if b then 2 else 1)
           c.if-is_long.true);
       room = w.room;
@@ -50,41 +56,41 @@ get_long_static-requires c =
 
 pub returns-then-is_long-clause-uses : goal.returns-then-is_long-clause-uses
 returns-then-is_long-clause-uses c = λ blocks texts x addresses done below h.
-    let k = known c.args.classes.now.world c.args.linked.now c.args.site in
+    let k = known c.args.current.classes.now.world c.args.linked.now c.args.current.site in
     let here = place c.args.at.now c.args.words.now c.args.held.now blocks in
-    c.get_long_static.ensures.gets blocks texts x (d access.GetStatic c.args.index c.args.next k here texts x addresses done below h.uses
+    c.get_long_static.ensures.gets blocks texts x (d access.GetStatic c.args.index c.args.current.next k here texts x addresses done below h.uses
     c.field_is_used.ensures c.in-Ok.field c.in-Ok.ensures.found c.in-Ok.ensures.used) addresses done below
-    (getting_static access.GetStatic c.args.index c.args.next k here texts x addresses done below h.uses c.field_is_used.ensures c.in-Ok.field
+    (getting_static access.GetStatic c.args.index c.args.current.next k here texts x addresses done below h.uses c.field_is_used.ensures c.in-Ok.field
     c.in-Ok.ensures.found c.in-Ok.ensures.used refl
-    (sym (c.is_ready.ensures k.world x.states (d access.GetStatic c.args.index c.args.next k here texts x addresses done below h.uses
+    (sym (c.is_ready.ensures k.world x.states (d access.GetStatic c.args.index c.args.current.next k here texts x addresses done below h.uses
     c.field_is_used.ensures c.in-Ok.field c.in-Ok.ensures.found c.in-Ok.ensures.used).by h.states_are
-    (class_at access.GetStatic c.args.index c.args.next k here texts x addresses done below h.uses c.field_is_used.ensures c.in-Ok.field
+    (class_at access.GetStatic c.args.index c.args.current.next k here texts x addresses done below h.uses c.field_is_used.ensures c.in-Ok.field
     c.in-Ok.ensures.found c.in-Ok.ensures.used)) ∙ c.if-not-is_ready.false) 2
-    (words_are access.GetStatic c.args.index c.args.next k here texts x addresses done below h.uses c.field_is_used.ensures c.in-Ok.field
+    (words_are access.GetStatic c.args.index c.args.current.next k here texts x addresses done below h.uses c.field_is_used.ensures c.in-Ok.field
     c.in-Ok.ensures.found c.in-Ok.ensures.used c.is_long.result c.is_long.ensures ∙ ap (λ (b : Bool). if b then 2 else 1) c.if-is_long.true))
 
 pub get_static-requires : goal.get_static-requires
 get_static-requires c =
-    let k = known c.args.classes.now.world c.args.linked.now c.args.site in
+    let k = known c.args.current.classes.now.world c.args.linked.now c.args.current.site in
     let w = c.requires in
     let here = place c.args.at.now c.args.words.now c.args.held.now w.blocks in
     record {
       blocks = w.blocks;
       texts = w.texts;
       c = w.c;
-      d = d access.GetStatic c.args.index c.args.next k here w.texts w.c w.addresses w.done
+      d = d access.GetStatic c.args.index c.args.current.next k here w.texts w.c w.addresses w.done
           w.below w.uses.uses c.field_is_used.ensures c.in-Ok.field c.in-Ok.ensures.found c.in-Ok.ensures.used;
       addresses = w.addresses;
       done =
           w.done;
       below = w.below;
-      gets = getting_static access.GetStatic c.args.index c.args.next k here w.texts w.c w.addresses w.done w.below
+      gets = getting_static access.GetStatic c.args.index c.args.current.next k here w.texts w.c w.addresses w.done w.below
           w.uses.uses c.field_is_used.ensures c.in-Ok.field c.in-Ok.ensures.found c.in-Ok.ensures.used refl
-          (sym (c.is_ready.ensures k.world w.c.states (d access.GetStatic c.args.index c.args.next k here w.texts w.c w.addresses w.done w.below
+          (sym (c.is_ready.ensures k.world w.c.states (d access.GetStatic c.args.index c.args.current.next k here w.texts w.c w.addresses w.done w.below
           w.uses.uses c.field_is_used.ensures c.in-Ok.field c.in-Ok.ensures.found c.in-Ok.ensures.used).by w.uses.states_are
-          (class_at access.GetStatic c.args.index c.args.next k here w.texts w.c w.addresses w.done w.below w.uses.uses c.field_is_used.ensures
+          (class_at access.GetStatic c.args.index c.args.current.next k here w.texts w.c w.addresses w.done w.below w.uses.uses c.field_is_used.ensures
           c.in-Ok.field c.in-Ok.ensures.found c.in-Ok.ensures.used)) ∙ c.if-not-is_ready.false) 1
-          (words_are access.GetStatic c.args.index c.args.next k here w.texts w.c w.addresses w.done w.below w.uses.uses c.field_is_used.ensures
+          (words_are access.GetStatic c.args.index c.args.current.next k here w.texts w.c w.addresses w.done w.below w.uses.uses c.field_is_used.ensures
           c.in-Ok.field c.in-Ok.ensures.found c.in-Ok.ensures.used c.is_long.result c.is_long.ensures ∙ ap (λ (b : Bool). if b then 2 else 1)
           c.if-is_long.false);
       room = w.room;
@@ -92,15 +98,15 @@ get_static-requires c =
 
 pub returns-clause-uses : goal.returns-clause-uses
 returns-clause-uses c = λ blocks texts x addresses done below h.
-    let k = known c.args.classes.now.world c.args.linked.now c.args.site in
+    let k = known c.args.current.classes.now.world c.args.linked.now c.args.current.site in
     let here = place c.args.at.now c.args.words.now c.args.held.now blocks in
-    c.get_static.ensures.gets blocks texts x (d access.GetStatic c.args.index c.args.next k here texts x addresses done below h.uses
+    c.get_static.ensures.gets blocks texts x (d access.GetStatic c.args.index c.args.current.next k here texts x addresses done below h.uses
     c.field_is_used.ensures c.in-Ok.field c.in-Ok.ensures.found c.in-Ok.ensures.used) addresses done below
-    (getting_static access.GetStatic c.args.index c.args.next k here texts x addresses done below h.uses c.field_is_used.ensures c.in-Ok.field
+    (getting_static access.GetStatic c.args.index c.args.current.next k here texts x addresses done below h.uses c.field_is_used.ensures c.in-Ok.field
     c.in-Ok.ensures.found c.in-Ok.ensures.used refl
-    (sym (c.is_ready.ensures k.world x.states (d access.GetStatic c.args.index c.args.next k here texts x addresses done below h.uses
+    (sym (c.is_ready.ensures k.world x.states (d access.GetStatic c.args.index c.args.current.next k here texts x addresses done below h.uses
     c.field_is_used.ensures c.in-Ok.field c.in-Ok.ensures.found c.in-Ok.ensures.used).by h.states_are
-    (class_at access.GetStatic c.args.index c.args.next k here texts x addresses done below h.uses c.field_is_used.ensures c.in-Ok.field
+    (class_at access.GetStatic c.args.index c.args.current.next k here texts x addresses done below h.uses c.field_is_used.ensures c.in-Ok.field
     c.in-Ok.ensures.found c.in-Ok.ensures.used)) ∙ c.if-not-is_ready.false) 1
-    (words_are access.GetStatic c.args.index c.args.next k here texts x addresses done below h.uses c.field_is_used.ensures c.in-Ok.field
+    (words_are access.GetStatic c.args.index c.args.current.next k here texts x addresses done below h.uses c.field_is_used.ensures c.in-Ok.field
     c.in-Ok.ensures.found c.in-Ok.ensures.used c.is_long.result c.is_long.ensures ∙ ap (λ (b : Bool). if b then 2 else 1) c.if-is_long.false))

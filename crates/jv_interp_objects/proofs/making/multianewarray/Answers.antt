@@ -10,48 +10,48 @@ use Rattle.jv_interp_objects.proofs.making.multianewarray.Goals as goal
 
 pub named-requires-clause-names : goal.named-requires-clause-names
 named-requires-clause-names g c =
-    let k = known c.args.classes.now.world c.args.linked.now c.args.site in
+    let k = known c.args.current.classes.now.world c.args.linked.now c.args.current.site in
     let here = place c.args.at.now c.args.words.now c.args.held.now (g.S.Store.content c.args.store.now) in
     let w = c.requires.can in
-    many_names c.args.index c.args.dimensions c.args.next k here w.texts w.c w.addresses w.done w.below w.makes
+    many_names c.args.index c.args.dimensions c.args.current.next k here w.texts w.c w.addresses w.done w.below w.makes
 
 pub returns-in-Err-clause-makes : goal.returns-in-Err-clause-makes
 returns-in-Err-clause-makes g c = λ texts x addresses done below h.
-    let k = known c.args.classes.now.world c.args.linked.now c.args.site in
+    let k = known c.args.current.classes.now.world c.args.linked.now c.args.current.site in
     let here = place c.args.at.now c.args.words.now c.args.held.now (g.S.Store.content c.args.store.now) in
-    many_failed c.args.index c.args.dimensions c.args.next k here texts x addresses done below h c.in-Err.class c.in-Err.ensures.found
+    many_failed c.args.index c.args.dimensions c.args.current.next k here texts x addresses done below h c.in-Err.class c.in-Err.ensures.found
 
 pub overflow_sub-array : goal.overflow_sub-array
 overflow_sub-array g c =
-    let k = known c.args.classes.now.world c.args.linked.now c.args.site in
+    let k = known c.args.current.classes.now.world c.args.linked.now c.args.current.site in
     let here = place c.args.at.now c.args.words.now c.args.held.now (g.S.Store.content c.args.store.now) in
     let w = c.requires.can in
-    let enough = some_array c.args.index c.args.dimensions c.args.next k here w.texts w.c w.addresses w.done w.below w.makes c.in-Ok.array
+    let enough = some_array c.args.index c.args.dimensions c.args.current.next k here w.texts w.c w.addresses w.done w.below w.makes c.in-Ok.array
     c.in-Ok.ensures.found in let some = c.requires.some in omega (arith, enough, some)
 
 pub new_nested_array-requires-clause-can : goal.new_nested_array-requires-clause-can
 new_nested_array-requires-clause-can g c =
-    let k = known c.args.classes.now.world c.args.linked.now c.args.site in
+    let k = known c.args.current.classes.now.world c.args.linked.now c.args.current.site in
     let here = place c.args.at.now c.args.words.now c.args.held.now (g.S.Store.content c.args.store.now) in
     let w = c.requires.can in
-    let m = many_made c.args.index c.args.dimensions c.args.next k here w.texts w.c w.addresses w.done w.below w.makes c.in-Ok.array
+    let m = many_made c.args.index c.args.dimensions c.args.current.next k here w.texts w.c w.addresses w.done w.below w.makes c.in-Ok.array
     c.in-Ok.ensures.found c.requires.some c.types_agree.ensures c.inner_slots-slots.result c.array_word-word.result c.inner_slots-slots.ensures
     c.array_word-word.ensures in
     record { texts = w.texts; c = w.c; components = m.components; addresses = w.addresses; done = w.done; below = w.below; makes = m.making }
 
 pub returns-clause-makes : goal.returns-clause-makes
 returns-clause-makes g c =
-    let k = known c.args.classes.now.world c.args.linked.now c.args.site in
+    let k = known c.args.current.classes.now.world c.args.linked.now c.args.current.site in
     let here = place c.args.at.now c.args.words.now c.args.held.now (g.S.Store.content c.args.store.now) in
     IfOk-weaker c.new_nested_array.result
-    (λ (effect : Effect). MakesMany c.array_word-word.result c.inner_slots-slots.result c.args.dimensions c.args.next c.args.at.now c.args.words.now
+    (λ (effect : Effect). MakesMany c.array_word-word.result c.inner_slots-slots.result c.args.dimensions c.args.current.next c.args.at.now c.args.words.now
     c.args.held.now (g.S.Store.content c.args.store.now) c.new_nested_array.new.at c.new_nested_array.new.words c.new_nested_array.new.held
     (g.S.Store.content c.new_nested_array.new.store) effect)
-    (λ (effect : Effect). MakesArrays c.args.index c.args.dimensions c.args.next k here
+    (λ (effect : Effect). MakesArrays c.args.index c.args.dimensions c.args.current.next k here
     (place c.new_nested_array.new.at c.new_nested_array.new.words c.new_nested_array.new.held (g.S.Store.content c.new_nested_array.new.store))
     effect)
     (λ effect makes. λ texts x addresses done below h.
-    let m = many_made c.args.index c.args.dimensions c.args.next k here texts x addresses done below h c.in-Ok.array c.in-Ok.ensures.found
+    let m = many_made c.args.index c.args.dimensions c.args.current.next k here texts x addresses done below h c.in-Ok.array c.in-Ok.ensures.found
     c.requires.some c.types_agree.ensures c.inner_slots-slots.result c.array_word-word.result c.inner_slots-slots.ensures
     c.array_word-word.ensures in makes texts x m.components addresses done below m.making)
     c.new_nested_array.ensures.makes
