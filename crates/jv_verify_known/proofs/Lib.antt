@@ -1,0 +1,4 @@
+pub mod Beside
+pub mod Comparing
+pub mod Making
+pub mod Words
