@@ -1,0 +1,4 @@
+pub mod Numbers
+pub mod Among
+pub mod Allowed
+pub mod Places
