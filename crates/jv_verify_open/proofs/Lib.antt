@@ -1,0 +1,5 @@
+pub mod Later
+pub mod Stretched
+pub mod Words
+pub mod Finding
+pub mod Flowing
