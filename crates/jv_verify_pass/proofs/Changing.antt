@@ -25,8 +25,7 @@ use Rattle.jv_meaning_typing.specs.Rule.{rule, within_stack, constructed_object}
 use Rattle.jv_verify_types.specs.Typed.{typed, typed_all}
 use Rattle.jv_verify_types.specs.Numbered.{Item, NumberFrame, frame_of}
 use Rattle.jv_verify_rules.specs.Laws.{WritesThere, keeps_locals}
-use Rattle.jv_verify_pass.specs.Inside.Changes.{stored_index, object_replaced, is_copy, is_object_at, changes_by, may_change, may_change_at, HoldCopies}
-use Rattle.jv_verify_pass.specs.Inside.Anchor.{AnchorFrame, is_written, Writes, WritesBy}
+use Rattle.jv_verify_pass.specs.Inside.Changes.{stored_index, is_written, object_replaced, is_copy, is_object_at, changes_by, may_change, may_change_at, HoldCopies}
 
 -- ---- what gave what
 
@@ -160,28 +159,6 @@ others_stay law env pc (insns.StoreLong index form) before behind e k none = law
 others_stay law env pc insn before behind e k none = law env pc insn before behind e k refl
 
 -- ---- what is noted
-
-neither : (a b : Bool) → (a || b) ≡ false → (a ≡ false) × (b ≡ false)
-neither false false e = (refl, refl)
-neither false true e = absurd cc
-neither true b e = absurd cc
-
-pub writes_more : (may more : ℕ → Bool) (old new : AnchorFrame) → ((k : ℕ) → more k ≡ false → may k ≡ false) → Writes more old new → Writes may old new
-writes_more may more old new covers writes = by_place new.place writes
-  where
-    by_place : (o : Option ℕ) → WritesBy more old o new → WritesBy may old o new
-    by_place None w = tt
-    by_place (Some p) w = (w.0, w.1, λ k e. let not = w.2 k e in (covers k not.0, not.1))
-
-pub none_written : (may : ℕ → Bool) (old : AnchorFrame) → old.place ≡ None → Writes may old old
-none_written may old e = subst (λ (o : Option ℕ). WritesBy may old o old) (sym e) tt
-
-pub nothing_written : (may : ℕ → Bool) (anchor : AnchorFrame) → ((k : ℕ) → may k ≡ false) → Writes may anchor anchor
-nothing_written may anchor none = by_place anchor.place refl
-  where
-    by_place : (o : Option ℕ) → anchor.place ≡ o → WritesBy may anchor o anchor
-    by_place None e = tt
-    by_place (Some p) e = (e, refl, λ k w. (none k, w))
 
 -- an instruction that keeps local variables changes none
 pub none_change : (env : Environment) (pc : ℕ) (insn : Instruction) (frame : Frame) → keeps_locals insn ≡ true → (k : ℕ) → may_change env pc insn frame k ≡ false

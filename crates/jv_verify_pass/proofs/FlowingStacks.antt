@@ -7,7 +7,7 @@ use Rattle.std.proofs.Math.Seq.{drop-append-add}
 use Rattle.std.proofs.lemmas.Bool.{eqb-true, eq-eqb}
 use Rattle.std.proofs.lemmas.List.{drop-drop, drop-map, length-append, length-map}
 use Rattle.std.proofs.lemmas.List.Elements.{All-map, All-push}
-use Rattle.std.proofs.lemmas.Option.{get_or_from_slice_get}
+use Rattle.std.proofs.lemmas.Option.{get_or_from_slice_get, slice_get_within}
 use Rattle.jv_code.specs.Insns.{Instruction}
 use Rattle.jv_stackmap.specs.Entries.{ReadFrame}
 use Rattle.jv_stackmap.specs.declared.verification.VerificationTypeOf.TheVariants as types
@@ -28,7 +28,6 @@ use Rattle.jv_verify_pass.specs.Pass.{Pass, names_in}
 use Rattle.jv_verify_pass.specs.Inside.Stacks.{lowest_of, LowestFlow, IsFlowed, AreFlowed, is_without, AreWithout, lowered, lowered_below, raised, GoesBelow, Keeps}
 use Rattle.jv_verify_pass.specs.Inside.Objects.{below_places, lower, objects_of}
 use Rattle.jv_verify_pass.proofs.Constructing.{StandsReplaced, leaves_others}
-use Rattle.jv_verify_pass.proofs.Holding.{within}
 use Rattle.jv_verify_pass.proofs.ObjectsBelow.{lower_one, lower_other, none_of, places_less, none_left}
 use Rattle.jv_verify_flow.proofs.Lists.{at_place}
 
@@ -395,7 +394,7 @@ module _ (pass : Pass) where
       All (IsFlowed pass stack) stacks → slice_get stacks k ≡ Some s → s.place ≡ place
       → slice_get pass.frames place ≡ Some map → LowestFlow pass.types stack map s
   known_at stacks stack k place s map all at e there =
-      subst (IsFlowed pass stack) (get_or_from_slice_get stacks k s s at) (all k s (within stacks k s at)) map (ap (slice_get pass.frames) e ∙ there)
+      subst (IsFlowed pass stack) (get_or_from_slice_get stacks k s s at) (all k s (slice_get_within stacks k s at)) map (ap (slice_get pass.frames) e ∙ there)
 
   module _ (f : NumberFrame) (map : ReadFrame) (s : FlowedStack) (h : LowestFlow pass.types (stack_of pass.types f) map s) where
     -- another height

@@ -64,7 +64,7 @@ module _ (pass : Pass) (entries : List Item) (count : ℕ) (kept : IsPass pass e
   thrown_is insn f object thrown e =
       ap (λ (locals : List FrameType). record { locals = locals; stack = typed (names_in pass) thrown ∷ []; flag_this_uninit = f.flag_this_uninit }) e
 
-  handles_is : (insn : Instruction) (frame : Frame) (handler : Handler) (t : FrameType) → Some t ≡ catch_type env handler.catch_type
+  pub handles_is : (insn : Instruction) (frame : Frame) (handler : Handler) (t : FrameType) → Some t ≡ catch_type env handler.catch_type
       → flows_into env (with_stack (handler_frame env insn frame) (t ∷ [])) (frame_at (maps_of pass) handler.handler_pc) ≡ handles env (maps_of pass) (handler_frame env insn frame) handler
   handles_is insn frame handler t e =
       ap (λ (o : Option FrameType). unwrap_or (option_map (λ (x : Frame). flows_into env x (frame_at (maps_of pass) handler.handler_pc))

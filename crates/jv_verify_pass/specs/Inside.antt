@@ -1,13 +1,10 @@
 pub mod Changes
-pub mod Cover
-pub mod Flowed
-pub mod Anchor
 pub mod Kept
 pub mod Locals
-pub mod Moved
 pub mod Objects
 pub mod Opening
 pub mod Parts
+pub mod Seen
 pub mod Settled
 pub mod Stacks
 pub mod Walk

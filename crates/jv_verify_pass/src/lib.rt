@@ -2,19 +2,15 @@
 //! code, then a frame that goes from instruction to instruction, against the map's. A room of `jv_verify`.
 #![tactic(auto)]
 
-mod anchor;
 mod catching;
 mod changes;
-mod cover;
 mod fault;
-mod flowed;
-mod handlers;
 mod maps;
 mod merging;
-mod moving;
 mod objects;
 mod opening;
 mod pass;
+mod seen;
 mod setting;
 mod stacks;
 mod standing;

@@ -35,7 +35,7 @@ pub struct Pass<'p, 'm, 'e, 't, 'a> {
     pub(crate) words: u16,
     pub(crate) max_locals: u16,
     pub(crate) handlers: ExceptionTable<'a>,
-    frames: &'p MapFrames,
+    pub(crate) frames: &'p MapFrames,
 }
 
 impl<'p, 'm, 'e, 't, 'a> Model for Pass<'p, 'm, 'e, 't, 'a> {

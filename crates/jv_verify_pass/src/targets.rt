@@ -1,48 +1,38 @@
 //! Where jumps go (JVMS 4.10.1.9).
 
-ghost use Rattle.std.specs.Prelude.{◌≡◌, length, map};
+ghost use Rattle.std.specs.Prelude.{ℕ, map};
 ghost use Rattle.std.specs.List.{list_all};
 ghost use Rattle.jv_code.specs.Insns.{instruction_of};
 ghost use Rattle.jv_code.specs.Switches.{distances_in, pairs_in};
 ghost use Rattle.jv_code.specs.Targets.{target_of};
 ghost use Rattle.jv_meaning_typing.specs.Typing.{flows_into, frame_at};
 ghost use Rattle.jv_verify_pass.specs.Inside.Walk.{distance_holds, pair_holds, table_holds, all_hold, distances_of};
-ghost use Rattle.jv_verify_pass.specs.Inside.Anchor.{IsAnchor};
-ghost use Rattle.jv_verify_pass.specs.Inside.Flowed.{HaveFlowed};
-ghost use Rattle.jv_verify_pass.specs.Inside.Stacks.{AreFlowed};
+ghost use Rattle.jv_verify_pass.specs.Inside.Seen.{IsSeen, StaysSeen};
 ghost use Rattle.jv_verify_pass.specs.Pass.{Tests};
 
-use crate::anchor::Anchor;
-use crate::flowed::FlowedLocals;
 use crate::merging::flows_by_stack;
 use crate::pass::Pass;
-use crate::stacks::FlowedStacks;
+use crate::seen::Seen;
 use jv_code::{Insn, first_distance, first_pair, target_of};
 use jv_verify_frame::TypeFrame;
 
 /// Whether a frame flows to that of the map at an offset; not where none is there.
 pub(crate) fn flows_into(
     pass: &Pass<'_, '_, '_, '_, '_>,
-    anchor: &Anchor,
-    flowed: &mut FlowedLocals,
-    stacks: &mut FlowedStacks,
+    seen: &mut Seen,
     frame: &TypeFrame,
     offset: u32,
 ) -> bool
-    requires locals { length frame.now.locals ≡ pass.now.max_locals }
-    requires anchor { IsAnchor pass.now anchor.now frame.now }
-    requires flowed { HaveFlowed pass.now flowed.old.writes.items flowed.old.frames.items frame.now.locals }
-    requires stacks { AreFlowed pass.now stacks.old.stacks.items frame.now }
+    requires seen { (at : ℕ) × IsSeen pass.now seen.old at frame.now }
     ensures flows { Tests pass.now (λ env maps f. flows_into env f (frame_at maps offset)) frame.now result }
-    ensures flowed { HaveFlowed pass.now flowed.new.writes.items flowed.new.frames.items frame.now.locals }
-    ensures stacks { AreFlowed pass.now stacks.new.stacks.items frame.now }
+    ensures seen { StaysSeen pass.now frame.now seen.old seen.new }
 {
     // Reads a field, so that the invariant is known.
     let _types = &pass.types;
     match pass.map_at(offset) {
         Some((place, map)) => {
-            let stack = stacks.flows(pass, frame, place, &map);
-            flows_by_stack(pass, anchor, flowed, frame, place, &map, stack)
+            let stack = seen.stacks.flows(pass, frame, place, &map);
+            flows_by_stack(pass, seen, frame, place, &map, stack)
         }
         None => false,
     }
@@ -51,23 +41,17 @@ pub(crate) fn flows_into(
 /// Whether it flows to that at a distance from an instruction.
 fn distance_holds(
     pass: &Pass<'_, '_, '_, '_, '_>,
-    anchor: &Anchor,
-    flowed: &mut FlowedLocals,
-    stacks: &mut FlowedStacks,
+    seen: &mut Seen,
     frame: &TypeFrame,
     offset: u32,
     distance: i32,
 ) -> bool
-    requires locals { length frame.now.locals ≡ pass.now.max_locals }
-    requires anchor { IsAnchor pass.now anchor.now frame.now }
-    requires flowed { HaveFlowed pass.now flowed.old.writes.items flowed.old.frames.items frame.now.locals }
-    requires stacks { AreFlowed pass.now stacks.old.stacks.items frame.now }
+    requires seen { (at : ℕ) × IsSeen pass.now seen.old at frame.now }
     ensures flows { Tests pass.now (λ env maps f. distance_holds env maps f offset distance) frame.now result }
-    ensures flowed { HaveFlowed pass.now flowed.new.writes.items flowed.new.frames.items frame.now.locals }
-    ensures stacks { AreFlowed pass.now stacks.new.stacks.items frame.now }
+    ensures seen { StaysSeen pass.now frame.now seen.old seen.new }
 {
     match target_of(offset, distance) {
-        Some(target) => flows_into(pass, anchor, flowed, stacks, frame, target),
+        Some(target) => flows_into(pass, seen, frame, target),
         None => false,
     }
 }
@@ -75,25 +59,19 @@ fn distance_holds(
 /// Whether it flows to those at the distances of a tableswitch.
 fn distances_hold(
     pass: &Pass<'_, '_, '_, '_, '_>,
-    anchor: &Anchor,
-    flowed: &mut FlowedLocals,
-    stacks: &mut FlowedStacks,
+    seen: &mut Seen,
     frame: &TypeFrame,
     offset: u32,
     distances: &[u8],
 ) -> bool
-    requires locals { length frame.now.locals ≡ pass.now.max_locals }
-    requires anchor { IsAnchor pass.now anchor.now frame.now }
-    requires flowed { HaveFlowed pass.now flowed.old.writes.items flowed.old.frames.items frame.now.locals }
-    requires stacks { AreFlowed pass.now stacks.old.stacks.items frame.now }
+    requires seen { (at : ℕ) × IsSeen pass.now seen.old at frame.now }
     ensures flows { Tests pass.now (λ env maps f. list_all (distance_holds env maps f offset) (distances_in distances.now))
         frame.now result }
-    ensures flowed { HaveFlowed pass.now flowed.new.writes.items flowed.new.frames.items frame.now.locals }
-    ensures stacks { AreFlowed pass.now stacks.new.stacks.items frame.now }
+    ensures seen { StaysSeen pass.now frame.now seen.old seen.new }
 {
     let mut left = distances;
     while let Some((distance, more)) = first_distance(left) {
-        if !distance_holds(pass, anchor, flowed, stacks, frame, offset, distance) {
+        if !distance_holds(pass, seen, frame, offset, distance) {
             return false;
         }
         left = more;
@@ -104,24 +82,18 @@ fn distances_hold(
 /// Whether it flows to those at the distances of a lookupswitch's pairs.
 fn pairs_hold(
     pass: &Pass<'_, '_, '_, '_, '_>,
-    anchor: &Anchor,
-    flowed: &mut FlowedLocals,
-    stacks: &mut FlowedStacks,
+    seen: &mut Seen,
     frame: &TypeFrame,
     offset: u32,
     pairs: &[u8],
 ) -> bool
-    requires locals { length frame.now.locals ≡ pass.now.max_locals }
-    requires anchor { IsAnchor pass.now anchor.now frame.now }
-    requires flowed { HaveFlowed pass.now flowed.old.writes.items flowed.old.frames.items frame.now.locals }
-    requires stacks { AreFlowed pass.now stacks.old.stacks.items frame.now }
+    requires seen { (at : ℕ) × IsSeen pass.now seen.old at frame.now }
     ensures flows { Tests pass.now (λ env maps f. list_all (pair_holds env maps f offset) (pairs_in pairs.now)) frame.now result }
-    ensures flowed { HaveFlowed pass.now flowed.new.writes.items flowed.new.frames.items frame.now.locals }
-    ensures stacks { AreFlowed pass.now stacks.new.stacks.items frame.now }
+    ensures seen { StaysSeen pass.now frame.now seen.old seen.new }
 {
     let mut left = pairs;
     while let Some(((_key, distance), more)) = first_pair(left) {
-        if !distance_holds(pass, anchor, flowed, stacks, frame, offset, distance) {
+        if !distance_holds(pass, seen, frame, offset, distance) {
             return false;
         }
         left = more;
@@ -132,87 +104,57 @@ fn pairs_hold(
 /// Whether it flows to those of a tableswitch.
 fn table_holds(
     pass: &Pass<'_, '_, '_, '_, '_>,
-    anchor: &Anchor,
-    flowed: &mut FlowedLocals,
-    stacks: &mut FlowedStacks,
+    seen: &mut Seen,
     frame: &TypeFrame,
     offset: u32,
     default: i32,
     distances: &[u8],
 ) -> bool
-    requires locals { length frame.now.locals ≡ pass.now.max_locals }
-    requires anchor { IsAnchor pass.now anchor.now frame.now }
-    requires flowed { HaveFlowed pass.now flowed.old.writes.items flowed.old.frames.items frame.now.locals }
-    requires stacks { AreFlowed pass.now stacks.old.stacks.items frame.now }
+    requires seen { (at : ℕ) × IsSeen pass.now seen.old at frame.now }
     ensures flows { Tests pass.now (λ env maps f. table_holds env maps f offset default (distances_in distances.now)) frame.now result }
-    ensures flowed { HaveFlowed pass.now flowed.new.writes.items flowed.new.frames.items frame.now.locals }
-    ensures stacks { AreFlowed pass.now stacks.new.stacks.items frame.now }
+    ensures seen { StaysSeen pass.now frame.now seen.old seen.new }
 {
-    distance_holds(pass, anchor, flowed, stacks, frame, offset, default)
-        && distances_hold(pass, anchor, flowed, stacks, frame, offset, distances)
+    distance_holds(pass, seen, frame, offset, default)
+        && distances_hold(pass, seen, frame, offset, distances)
 }
 
 /// Whether it flows to those of a lookupswitch.
 fn lookup_holds(
     pass: &Pass<'_, '_, '_, '_, '_>,
-    anchor: &Anchor,
-    flowed: &mut FlowedLocals,
-    stacks: &mut FlowedStacks,
+    seen: &mut Seen,
     frame: &TypeFrame,
     offset: u32,
     default: i32,
     pairs: &[u8],
 ) -> bool
-    requires locals { length frame.now.locals ≡ pass.now.max_locals }
-    requires anchor { IsAnchor pass.now anchor.now frame.now }
-    requires flowed { HaveFlowed pass.now flowed.old.writes.items flowed.old.frames.items frame.now.locals }
-    requires stacks { AreFlowed pass.now stacks.old.stacks.items frame.now }
+    requires seen { (at : ℕ) × IsSeen pass.now seen.old at frame.now }
     ensures flows { Tests pass.now (λ env maps f. table_holds env maps f offset default (distances_of pairs.now)) frame.now result }
-    ensures flowed { HaveFlowed pass.now flowed.new.writes.items flowed.new.frames.items frame.now.locals }
-    ensures stacks { AreFlowed pass.now stacks.new.stacks.items frame.now }
+    ensures seen { StaysSeen pass.now frame.now seen.old seen.new }
 {
-    distance_holds(pass, anchor, flowed, stacks, frame, offset, default)
-        && pairs_hold(pass, anchor, flowed, stacks, frame, offset, pairs)
+    distance_holds(pass, seen, frame, offset, default)
+        && pairs_hold(pass, seen, frame, offset, pairs)
 }
 
 /// Whether what an instruction leaves flows to a frame of the map at each of its targets.
 pub(crate) fn targets_hold(
     pass: &Pass<'_, '_, '_, '_, '_>,
-    anchor: &Anchor,
-    flowed: &mut FlowedLocals,
-    stacks: &mut FlowedStacks,
+    seen: &mut Seen,
     frame: &TypeFrame,
     offset: u32,
     insn: &Insn<&[u8]>,
 ) -> bool
-    requires locals { length frame.now.locals ≡ pass.now.max_locals }
-    requires anchor { IsAnchor pass.now anchor.now frame.now }
-    requires flowed { HaveFlowed pass.now flowed.old.writes.items flowed.old.frames.items frame.now.locals }
-    requires stacks { AreFlowed pass.now stacks.old.stacks.items frame.now }
+    requires seen { (at : ℕ) × IsSeen pass.now seen.old at frame.now }
     ensures flows { Tests pass.now (λ env maps f. all_hold env maps f offset (instruction_of insn.now)) frame.now result }
-    ensures flowed { HaveFlowed pass.now flowed.new.writes.items flowed.new.frames.items frame.now.locals }
-    ensures stacks { AreFlowed pass.now stacks.new.stacks.items frame.now }
+    ensures seen { StaysSeen pass.now frame.now seen.old seen.new }
 {
     match *insn {
-        Insn::Branch(_, distance) => distance_holds(
-            pass,
-            anchor,
-            flowed,
-            stacks,
-            frame,
-            offset,
-            i32::from(distance),
-        ),
-        Insn::Goto(distance, _) => distance_holds(
-            pass, anchor, flowed, stacks, frame, offset, distance,
-        ),
+        Insn::Branch(_, distance) => distance_holds(pass, seen, frame, offset, i32::from(distance)),
+        Insn::Goto(distance, _) => distance_holds(pass, seen, frame, offset, distance),
         Insn::TableSwitch(_, default, _, _, distances) => {
-            table_holds(
-                pass, anchor, flowed, stacks, frame, offset, default, distances,
-            )
+            table_holds(pass, seen, frame, offset, default, distances)
         }
         Insn::LookupSwitch(_, default, pairs) => {
-            lookup_holds(pass, anchor, flowed, stacks, frame, offset, default, pairs)
+            lookup_holds(pass, seen, frame, offset, default, pairs)
         }
         _ => true,
     }

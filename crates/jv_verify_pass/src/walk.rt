@@ -1,60 +1,30 @@
 //! The pass over a method's code.
 
-ghost use Rattle.std.specs.Prelude.{◌≡◌, None, Some, IfOk, length, if◌then◌else◌};
-ghost use Rattle.jv_code.specs.Insns.{instruction_of};
+ghost use Rattle.std.specs.Prelude.{IfOk};
 ghost use Rattle.jv_meaning_typing.specs.Environment.{Environment};
-ghost use Rattle.jv_verify_rules.specs.Laws.{keeps_locals};
 ghost use Rattle.jv_verify_pass.specs.Pass.{IsOfPass, maps_of};
 ghost use Rattle.jv_verify_pass.specs.Found.{IsFound};
-ghost use Rattle.jv_verify_pass.specs.Inside.Cover.{IsCover};
-ghost use Rattle.jv_verify_pass.specs.Inside.Anchor.{IsAnchor};
-ghost use Rattle.jv_verify_pass.specs.Inside.Opening.{AreOpenings};
-ghost use Rattle.jv_verify_pass.specs.Inside.Flowed.{HaveFlowed};
-ghost use Rattle.jv_verify_pass.specs.Inside.Stacks.{AreFlowed};
+ghost use Rattle.jv_verify_pass.specs.Inside.Seen.{IsSeen};
 ghost use Rattle.jv_verify_pass.specs.Inside.Walk.{IsFoundFrom};
 
-use crate::anchor::Anchor;
-use crate::cover::{Cover, cover_of};
 use crate::fault::CodeFault;
-use crate::flowed::FlowedLocals;
-use crate::opening::Openings;
 use crate::pass::Pass;
+use crate::seen::Seen;
 use crate::setting::set_to_initial;
-use crate::stacks::FlowedStacks;
 use crate::step::step;
-use jv_code::{Insn, falls_through, stands_in_list, starts_apart};
+use jv_code::{falls_through, stands_in_list, starts_apart};
 use jv_meaning_typing::VerifyRule;
 use jv_verify_frame::TypeFrame;
-use jv_verify_rules::keeps_locals;
 use std::alloc::{AllocError, Global};
-
-/// The offset of an instruction that leaves handlers settled: it keeps what they ask of.
-fn settled_by(insn: &Insn<&[u8]>, offset: u32) -> Option<u32>
-    ensures { result ≡ (if keeps_locals (instruction_of insn.now) then Some offset else None) }
-{
-    if keeps_locals(insn) {
-        Some(offset)
-    } else {
-        None
-    }
-}
 
 /// Goes over all instructions from the first on, before which the frame stands.
 fn walk(
+    alloc: Global,
     pass: &Pass<'_, '_, '_, '_, '_>,
-    cover: &Cover,
-    openings: &mut Openings,
-    anchor: &mut Anchor,
-    flowed: &mut FlowedLocals,
-    stacks: &mut FlowedStacks,
+    seen: &mut Seen,
     frame: &mut TypeFrame,
 ) -> Result<Option<CodeFault>, AllocError>
-    requires locals { length frame.old.locals ≡ pass.now.max_locals }
-    requires cover { IsCover pass.now.handlers cover.now.begins.items cover.now.end }
-    requires openings { AreOpenings pass.now openings.old }
-    requires anchor { IsAnchor pass.now anchor.old frame.old }
-    requires flowed { HaveFlowed pass.now flowed.old.writes.items flowed.old.frames.items frame.old.locals }
-    requires stacks { AreFlowed pass.now stacks.old.stacks.items frame.old }
+    requires seen { IsSeen pass.now seen.old 0 frame.old }
     requires method { (env : Environment) × IsOfPass pass.now env }
     ensures { IsFoundFrom pass.now frame.old result }
 {
@@ -63,13 +33,10 @@ fn walk(
     let code = pass.context.code();
     let size = code.size();
     let mut falls = true;
-    let mut settled = None;
     let mut offset = 0;
     while offset < size {
         let (insn, next) = code.insn_at(offset);
-        if let Some(rule) = step(
-            pass, cover, openings, anchor, flowed, stacks, frame, falls, settled, offset, &insn,
-        )? {
+        if let Some(rule) = step(alloc, pass, seen, frame, falls, offset, &insn)? {
             return Ok(Some(CodeFault { offset, rule }));
         }
         falls = falls_through(&insn);
@@ -79,7 +46,6 @@ fn walk(
                 rule: VerifyRule::EndOfCode,
             }));
         }
-        settled = settled_by(&insn, offset);
         offset = next;
     }
     Ok(None)
@@ -88,15 +54,11 @@ fn walk(
 /// Frames of one method after another, with the local variables of the largest: memory for these is taken once.
 pub struct FrameRoom {
     frame: TypeFrame,
-    anchor: Anchor,
 }
 
 impl Drop for FrameRoom {
     fn drop(self) {
-        let FrameRoom {
-            frame: _,
-            anchor: _,
-        } = self;
+        let FrameRoom { frame: _ } = self;
     }
 }
 
@@ -108,16 +70,14 @@ impl FrameRoom {
     /// Where the host had no memory for it.
     pub fn new(alloc: Global) -> Result<FrameRoom, AllocError> {
         let frame = TypeFrame::new(alloc, 0)?;
-        let anchor = Anchor::new(alloc)?;
-        Ok(FrameRoom { frame, anchor })
+        Ok(FrameRoom { frame })
     }
 }
 
-/// Checks the code of a method in a frame that is made anew, beside one that comes to be held.
+/// Checks the code of a method in a frame that is made anew.
 fn check_in(
     alloc: Global,
     frame: &mut TypeFrame,
-    anchor: &mut Anchor,
     pass: &Pass<'_, '_, '_, '_, '_>,
 ) -> Result<Option<CodeFault>, AllocError>
     requires { (env : Environment) × IsOfPass pass.now env }
@@ -127,20 +87,8 @@ fn check_in(
     starts_apart();
     frame.renew(pass.max_locals)?;
     set_to_initial(frame, pass.initial, pass.words);
-    let cover = cover_of(alloc, pass.handlers, pass.context.code().size())?;
-    let mut openings = Openings::of(alloc, pass.handlers)?;
-    anchor.forget();
-    let mut flowed = FlowedLocals::new(alloc);
-    let mut stacks = FlowedStacks::new(alloc);
-    walk(
-        pass,
-        &cover,
-        &mut openings,
-        anchor,
-        &mut flowed,
-        &mut stacks,
-        frame,
-    )
+    let mut seen = Seen::new(alloc, pass)?;
+    walk(alloc, pass, &mut seen, frame)
 }
 
 /// Checks the code of a method whose handlers and stack map keep their rules: the first rule that is broken at the least
@@ -148,7 +96,7 @@ fn check_in(
 ///
 /// # Errors
 ///
-/// Where the host had no memory for the frame.
+/// Where the host had no memory for the frame, or for what is known of it.
 pub fn check_code(
     alloc: Global,
     room: &mut FrameRoom,
@@ -157,5 +105,5 @@ pub fn check_code(
     requires { (env : Environment) × IsOfPass pass.now env }
     ensures { (env : Environment) → IsOfPass pass.now env → IfOk result (IsFound env (maps_of pass.now)) }
 {
-    check_in(alloc, &mut room.frame, &mut room.anchor, pass)
+    check_in(alloc, &mut room.frame, pass)
 }

@@ -1,5 +1,6 @@
 -- Where an instruction can give local variables other types (JVMS 4.10.1.4).
-use Rattle.std.specs.Prelude.{◌≡◌, ℕ, Bool, false, List, Option, Some, None, slice_get, unwrap_or}
+use Rattle.std.specs.Prelude.{◌≡◌, ◌==◌, ℕ, Bool, false, List, Option, Some, None, slice_get, unwrap_or}
+use Rattle.std.specs.List.{list_any}
 use Rattle.std.specs.Option.{option_map}
 use Rattle.jv_stackmap.specs.declared.verification.VerificationTypeOf.TheVariants as types
 use Rattle.jv_stackmap.specs.Types.{FrameType}
@@ -13,7 +14,6 @@ use Rattle.jv_verify_types.specs.Typed.{typed, typed_all}
 use Rattle.jv_verify_types.specs.Numbered.{Item, NumberFrame, frame_of}
 use Rattle.jv_verify_rules.specs.Laws.{is_beside}
 use Rattle.jv_verify_pass.specs.Pass.{Pass, IsOfPass, names_in}
-use Rattle.jv_verify_pass.specs.Inside.Anchor.{is_written}
 
 -- the first local variable into which an instruction stores, if it does
 abbrev pub stored_index : Instruction → Option ℕ
@@ -41,6 +41,10 @@ is_copy object locals k = unwrap_or (option_map (is_same_object object) (slice_g
 abbrev pub is_object_at : Option FrameType → List FrameType → ℕ → Bool
 is_object_at None locals k = false
 is_object_at (Some object) locals k = is_copy object locals k
+
+-- a place is among some
+abbrev pub is_written : List ℕ → ℕ → Bool
+is_written places k = list_any (λ place. place == k) places
 
 -- what a store at an index can change, or one that replaces an object
 abbrev pub changes_by : Option ℕ → (ℕ → Bool) → ℕ → Bool

@@ -1,75 +1,78 @@
-use Rattle.std.proofs.Common.{◌≡◌, List, ℕ, length, sym, ap, subst, ◌∙◌}
-use Rattle.std.specs.Prelude.{slice_get}
-use Rattle.std.specs.Option.{option_map}
-use Rattle.jv_stackmap.specs.Entries.{locals_in}
-use Rattle.jv_stackmap.specs.Frames.{Frame}
-use Rattle.jv_stackmap.specs.Types.{FrameType}
-use Rattle.jv_verify_types.specs.Typed.{typed_all}
-use Rattle.jv_verify_types.specs.Numbered.{NumberFrame}
-use Rattle.jv_verify_types.specs.Mapped.{local_entry_words, locals_of}
+use Rattle.std.proofs.Common.{◌≡◌, false, List, get_or, length, sym, ap, subst, ◌∙◌, arith}
+use Rattle.std.proofs.lemmas.List.{length-map}
+use Rattle.jv_verify_types.specs.Typed.{typed, typed_all}
+use Rattle.jv_verify_types.specs.Numbered.{Item, NumberFrame}
+use Rattle.jv_verify_types.specs.Mapped.{expanded_entries, has_uninitialized_this, types_of_entries}
+use Rattle.jv_verify_maps.specs.Words.{MapWords}
+use Rattle.jv_verify_known.specs.Known.{AreNoted, IsFrameAt, IsKnown}
+use Rattle.jv_verify_known.proofs.Words.{many, this_is}
+use Rattle.jv_verify_open.proofs.Flowing.{on_ok}
 use Rattle.jv_verify_pass.specs.Pass.{Pass, names_in}
-use Rattle.jv_verify_pass.specs.Inside.Anchor.{AnchorFrame, HoldsLocals, IsAnchorBy, is_written}
-use Rattle.jv_verify_pass.specs.Inside.Flowed.{HasFlowed}
-use Rattle.jv_verify_pass.proofs.Holding.{put_is, anchor_again, made_is}
-use Rattle.jv_verify_pass.proofs.FlowingAgain.{none_all}
+use Rattle.jv_verify_pass.proofs.FlowingStacks.{none_flowed}
+use Rattle.jv_verify_pass.proofs.Rooms.{frame_at, place_within, room_at}
+use Rattle.jv_verify_pass.proofs.Seeing.{noted_handled, on_ok_by, same_frame}
 use Rattle.jv_verify_pass.proofs.merging.set_frame.Goals as goal
 
-pub returns-then-is_of-clause-ok : goal.returns-then-is_of-clause-ok
-returns-then-is_of-clause-ok c =
-    let pass = c.args.pass.now in
-    let map = c.args.map.now in
-    let frame = c.args.frame.now in
-    let anchor = c.follow.new.self in
-    let h : HoldsLocals pass map.locals anchor frame.locals =
-    c.is_of.ensures c.if-is_of.true map.locals frame.locals (ap (option_map locals_in) c.requires.at) (c.in_ok-follow.ensures frame.locals c.requires.anchor) in
-    put_is pass c.pass.inside.types.now anchor frame c.put_back.new.frame c.set_stack.new.frame map (ap (λ (p : Pass). p.types) c.pass.view_is) h
-    (c.put_back.ensures.locals (names_in pass) (c.requires.locals ∙ sym h.many) h.same) c.put_back.ensures.same c.in_ok-set_stack.ensures.stack c.set_stack.ensures.same
+pub set_locals-requires-clause-room : goal.set_locals-requires-clause-room
+set_locals-requires-clause-room c =
+    let room = room_at c.args.pass.now c.args.seen.now.known.words c.requires.seen.1.words c.args.place c.args.map.now c.requires.at c.requires.room in
+    let view = ap (λ (p : Pass). p.max_locals) c.pass.view_is in omega (arith, room, view)
 
-pub returns-then-is_of-clause-same : goal.returns-then-is_of-clause-same
-returns-then-is_of-clause-same c = ap (λ (f : NumberFrame). length f.locals) c.set_stack.ensures.same ∙ (c.put_back.ensures.many ∙ c.requires.locals)
-
-pub returns-then-is_of-clause-anchor : goal.returns-then-is_of-clause-anchor
-returns-then-is_of-clause-anchor c =
-    let pass = c.args.pass.now in
-    let map = c.args.map.now in
-    let frame = c.args.frame.now in
-    let anchor = c.follow.new.self in
-    let is = c.in_ok-follow.ensures frame.locals c.requires.anchor in
-    let h : HoldsLocals pass map.locals anchor frame.locals = c.is_of.ensures c.if-is_of.true map.locals frame.locals (ap (option_map locals_in) c.requires.at) is in
-    subst (λ (x : AnchorFrame). IsAnchorBy pass x.place x c.set_stack.new.frame.locals) (sym c.clear_written.ensures)
-    (anchor_again pass anchor.place anchor frame.locals c.set_stack.new.frame.locals is
-    (ap (λ (f : NumberFrame). typed_all (names_in pass) f.locals) c.set_stack.ensures.same
-    ∙ c.put_back.ensures.locals (names_in pass) (c.requires.locals ∙ sym h.many) h.same))
-
-pub returns-then-is_of-clause-flowed : goal.returns-then-is_of-clause-flowed
-returns-then-is_of-clause-flowed c =
-    let pass = c.args.pass.now in
-    let map = c.args.map.now in
-    let frame = c.args.frame.now in
-    let anchor = c.follow.new.self in
-    let h : HoldsLocals pass map.locals anchor frame.locals =
-    c.is_of.ensures c.if-is_of.true map.locals frame.locals (ap (option_map locals_in) c.requires.at) (c.in_ok-follow.ensures frame.locals c.requires.anchor) in
-    let is : typed_all (names_in pass) c.set_stack.new.frame.locals ≡ locals_of pass.types anchor.base =
-    ap (λ (f : NumberFrame). typed_all (names_in pass) f.locals) c.set_stack.ensures.same
-    ∙ c.put_back.ensures.locals (names_in pass) (c.requires.locals ∙ sym h.many) h.same in
-    c.add.ensures pass frame.locals c.set_stack.new.frame.locals c.requires.flowed
-    (λ k e.
-    ap (λ (ts : List FrameType). slice_get ts k) is ∙ sym (h.same k (ap (λ (places : List ℕ). is_written places k) (sym c.written.ensures) ∙ e)))
-
-pub set_to_map-requires-clause-words : goal.set_to_map-requires-clause-words
-set_to_map-requires-clause-words c = c.requires.room.words ∙ ap (λ (p : Pass). local_entry_words p.types c.args.map.now) (sym c.pass.view_is)
+pub has_this-requires : goal.has_this-requires
+has_this-requires c =
+    let within = place_within c.args.pass.now c.args.seen.now.known.words c.requires.seen.1.words c.args.place c.args.map.now c.requires.at in
+    let same = ap (λ (ws : MapWords). length ws.frames) (c.words.ensures ∙ c.set_locals.ensures.words) in omega (arith, within, same)
 
 pub returns-clause-ok : goal.returns-clause-ok
 returns-clause-ok c =
-    made_is c.args.pass.now c.pass.inside.types.now (length c.args.frame.now.locals) c.set_to_map.new.frame c.args.map.now
-    (ap (λ (p : Pass). p.types) c.pass.view_is) c.requires.locals c.in_ok-set_to_map.ensures.ok
+    let pass = c.args.pass.now in
+    let map = c.args.map.now in
+    let words = c.args.seen.now.known.words in
+    let at = frame_at pass words c.requires.seen.1.words c.args.place map c.requires.at in
+    let g = c.set_stack.new.frame in
+    let locals : g.locals ≡ c.set_locals.new.frame.locals =
+    ap (λ (f : NumberFrame). f.locals) c.set_stack.ensures.same ∙ ap (λ (f : NumberFrame). f.locals) c.set_flag.ensures in
+    let flag = ap (λ (f : NumberFrame). f.flag_this_uninit) c.set_stack.ensures.same ∙ ap (λ (f : NumberFrame). f.flag_this_uninit) c.set_flag.ensures in
+    on_ok_by c.set_stack.result (λ stack.
+    same_frame (typed_all (names_in pass) g.locals) (expanded_entries pass.types pass.max_locals map.locals) (typed_all (names_in pass) g.stack)
+    (types_of_entries pass.types map.stack) g.flag_this_uninit (has_uninitialized_this pass.types map)
+    (ap (typed_all (names_in pass)) locals
+    ∙ subst (λ (p : Pass). typed_all (names_in p) c.set_locals.new.frame.locals ≡ expanded_entries p.types p.max_locals map.locals) c.pass.view_is
+    (c.set_locals.ensures.locals map (subst (λ (p : Pass). IsFrameAt p.types words c.args.place map) (sym c.pass.view_is) at)))
+    (subst (λ (p : Pass). typed_all (names_in p) g.stack ≡ types_of_entries p.types map.stack) c.pass.view_is stack)
+    (flag
+    ∙ (c.has_this.ensures
+    ∙ (ap (λ (ws : MapWords). get_or ws.with_this c.args.place false) (c.words.ensures ∙ c.set_locals.ensures.words)
+    ∙ this_is pass.types words c.args.place map at)))) c.set_stack.ensures.stack
 
-pub returns-clause-anchor : goal.returns-clause-anchor
-returns-clause-anchor c =
-    c.in_ok-begin.ensures c.set_to_map.new.frame.locals
-    (ap (λ (f : Frame). f.locals)
-    (made_is c.args.pass.now c.pass.inside.types.now (length c.args.frame.now.locals) c.set_to_map.new.frame c.args.map.now
-    (ap (λ (p : Pass). p.types) c.pass.view_is) c.requires.locals c.in_ok-set_to_map.ensures.ok))
-
-pub returns-clause-flowed : goal.returns-clause-flowed
-returns-clause-flowed c = none_all (HasFlowed c.args.pass.now _ c.set_to_map.new.frame.locals) _ c.forget.ensures
+pub returns-clause-seen : goal.returns-clause-seen
+returns-clause-seen c =
+    let pass = c.args.pass.now in
+    let map = c.args.map.now in
+    let words = c.args.seen.now.known.words in
+    let at = frame_at pass words c.requires.seen.1.words c.args.place map c.requires.at in
+    let g = c.set_stack.new.frame in
+    let set = c.set_locals.new.frame in
+    let room = room_at pass words c.requires.seen.1.words c.args.place map c.requires.at c.requires.room in
+    let locals : g.locals ≡ set.locals =
+    ap (λ (f : NumberFrame). f.locals) c.set_stack.ensures.same ∙ ap (λ (f : NumberFrame). f.locals) c.set_flag.ensures in
+    let typed_is : typed_all (names_in pass) set.locals ≡ expanded_entries pass.types pass.max_locals map.locals =
+    subst (λ (p : Pass). typed_all (names_in p) set.locals ≡ expanded_entries p.types p.max_locals map.locals) c.pass.view_is
+    (c.set_locals.ensures.locals map (subst (λ (p : Pass). IsFrameAt p.types words c.args.place map) (sym c.pass.view_is) at)) in
+    let counted : length g.locals ≡ pass.max_locals =
+    ap length locals
+    ∙ (sym (length-map set.locals (typed (names_in pass))) ∙ (ap length typed_is ∙ many pass.types words c.args.place map at pass.max_locals room)) in
+    on_ok c.set_stack.result (λ offset is. record {
+      locals = counted;
+      few = let few = is.few in let was = is.locals in omega (arith, few, was, counted);
+      words = c.set_locals.ensures.words ∙ is.words;
+      known =
+          subst (λ (ls : List Item). IsKnown pass.types c.set_locals.new.self ls) (sym locals)
+          (subst (λ (p : Pass). IsKnown p.types c.set_locals.new.self set.locals) c.pass.view_is c.set_locals.ensures.known);
+      handled =
+          noted_handled pass c.args.seen.now.known c.set_locals.new.self c.args.seen.now.openings offset c.args.frame.now.locals g.locals c.set_locals.ensures.words
+          (subst (λ (ls : List Item). AreNoted pass.types c.args.seen.now.known.writes c.set_locals.new.self.writes c.args.frame.now.locals ls) (sym locals)
+          (subst (λ (p : Pass). AreNoted p.types c.args.seen.now.known.writes c.set_locals.new.self.writes c.args.frame.now.locals set.locals) c.pass.view_is
+          c.set_locals.ensures.noted)) c.set_locals.ensures.more is.handled;
+      stacks = none_flowed pass _ g c.clear.ensures;
+    })

@@ -12,8 +12,7 @@ use Rattle.jv_verify_pass.specs.Inside.Walk.{Stands}
 use Rattle.jv_verify_pass.proofs.Walking.{stand, merge_broken, handler_broken, instruction_broken, target_broken, goes_on}
 use Rattle.jv_verify_pass.proofs.FlowsInto.{applied, is_left, is_none_left, as_many}
 use Rattle.jv_verify_pass.proofs.FlowingStacks.{flowed_behind}
-use Rattle.jv_verify_pass.proofs.Holding.{anchor_behind}
-use Rattle.jv_verify_pass.proofs.Settling.{if_some, now_settled, still_settled}
+use Rattle.jv_verify_pass.proofs.Seeing.{later_seen, seen_behind}
 use Rattle.jv_verify_pass.proofs.step.step.Goals as goal
 
 pub returns-then-not-branch-clause-step : goal.returns-then-not-branch-clause-step
@@ -48,23 +47,8 @@ returns-then-not-branch-3-clause-step c = λ env is at r.
     (applied pass entries count kept env is c.pass.inside.context.now insn c.merge.new.frame c.apply.new.frame _ c.args.offset _ (ap (λ (p : Pass). p.context) c.pass.view_is)
     refl c.in_ok-apply.ensures))
 
-pub targets_hold-requires-clause-locals : goal.targets_hold-requires-clause-locals
-targets_hold-requires-clause-locals c =
-    let pass = c.args.pass.now in
-    let entries = c.pass.inside.initial.now in
-    let count = c.pass.inside.words in
-    let kept : IsPass pass entries count = subst (λ (p : Pass). IsPass p entries count) c.pass.view_is c.pass.invariant in
-    let env = c.requires.method.0 in
-    let is = c.requires.method.1 in
-    let insn = instruction_of c.args.insn.now in
-    as_many c.keeps_local_count.ensures env c.args.offset insn (names_in pass) c.merge.new.frame c.apply.new.frame
-    (is_left (names_in pass) _ c.apply.new.frame _ c.if-not-branch-3.false
-    (applied pass entries count kept env is c.pass.inside.context.now insn c.merge.new.frame c.apply.new.frame _ c.args.offset _ (ap (λ (p : Pass). p.context) c.pass.view_is)
-    refl c.in_ok-apply.ensures))
-    ∙ c.merge.ensures.locals
-
-pub targets_hold-requires-clause-anchor : goal.targets_hold-requires-clause-anchor
-targets_hold-requires-clause-anchor c =
+pub targets_hold-requires : goal.targets_hold-requires
+targets_hold-requires c =
     let pass = c.args.pass.now in
     let entries = c.pass.inside.initial.now in
     let count = c.pass.inside.words in
@@ -74,46 +58,21 @@ targets_hold-requires-clause-anchor c =
     let insn = instruction_of c.args.insn.now in
     let f = c.merge.new.frame in
     let g = c.apply.new.frame in
-    let left : rule env c.args.offset insn (frame_of (names_in pass) f) ≡ Some (frame_of (names_in pass) g) =
-    is_left (names_in pass) _ g _ c.if-not-branch-3.false
-    (applied pass entries count kept env is c.pass.inside.context.now insn f g _ c.args.offset _ (ap (λ (p : Pass). p.context) c.pass.view_is) refl c.in_ok-apply.ensures) in
-    anchor_behind pass (may_change env c.args.offset insn (frame_of (names_in pass) f)) c.merge.new.anchor c.note.new.anchor f.locals g.locals c.in_ok-merge.ensures.anchor
-    (c.in_ok-note.ensures.anchor env is) (others_stay c.writes_there.ensures env c.args.offset insn (frame_of (names_in pass) f) (frame_of (names_in pass) g) left)
-
-pub targets_hold-requires-clause-flowed : goal.targets_hold-requires-clause-flowed
-targets_hold-requires-clause-flowed c =
-    let pass = c.args.pass.now in
-    let entries = c.pass.inside.initial.now in
-    let count = c.pass.inside.words in
-    let kept : IsPass pass entries count = subst (λ (p : Pass). IsPass p entries count) c.pass.view_is c.pass.invariant in
-    let env = c.requires.method.0 in
-    let is = c.requires.method.1 in
-    let insn = instruction_of c.args.insn.now in
-    let f = c.merge.new.frame in
-    let g = c.apply.new.frame in
-    let left : rule env c.args.offset insn (frame_of (names_in pass) f) ≡ Some (frame_of (names_in pass) g) =
-    is_left (names_in pass) _ g _ c.if-not-branch-3.false
-    (applied pass entries count kept env is c.pass.inside.context.now insn f g _ c.args.offset _ (ap (λ (p : Pass). p.context) c.pass.view_is) refl c.in_ok-apply.ensures) in
-    c.in_ok-note.ensures.flowed env is pass f.locals g.locals c.is_handled.ensures.flowed
-    (others_stay c.writes_there.ensures env c.args.offset insn (frame_of (names_in pass) f) (frame_of (names_in pass) g) left)
-
-pub targets_hold-requires-clause-stacks : goal.targets_hold-requires-clause-stacks
-targets_hold-requires-clause-stacks c =
-    let pass = c.args.pass.now in
-    let entries = c.pass.inside.initial.now in
-    let count = c.pass.inside.words in
-    let kept : IsPass pass entries count = subst (λ (p : Pass). IsPass p entries count) c.pass.view_is c.pass.invariant in
-    let env = c.requires.method.0 in
-    let is = c.requires.method.1 in
-    let insn = instruction_of c.args.insn.now in
     let stacks = c.go_into.new.self.stacks.items in
-    let new = c.apply.new.frame in
-    subst (λ (ss : List FlowedStack). AreFlowed pass ss new) (sym (c.go_behind.ensures ∙ ap (λ n. map (lowered (n - 6)) stacks) c.height.ensures))
-    (flowed_behind pass c.leaves_below.ensures env c.args.offset insn stacks c.merge.new.frame new c.go_into.ensures.stacks
-    (is_left (names_in pass) _ new _ c.if-not-branch-3.false
-    (applied pass entries count kept env is c.pass.inside.context.now insn c.merge.new.frame new _ c.args.offset _ (ap (λ (p : Pass). p.context) c.pass.view_is)
-    refl c.in_ok-apply.ensures))
-    (c.go_into.ensures.object env is))
+    let left : rule env c.args.offset insn (frame_of (names_in pass) f) ≡ Some (frame_of (names_in pass) g) =
+    is_left (names_in pass) _ g _ c.if-not-branch-3.false
+    (applied pass entries count kept env is c.pass.inside.context.now insn f g _ c.args.offset _ (ap (λ (p : Pass). p.context) c.pass.view_is) refl c.in_ok-apply.ensures) in
+    record {
+      seen = (
+        c.args.offset,
+        seen_behind pass (may_change env c.args.offset insn (frame_of (names_in pass) f)) c.is_handled.new.seen c.note.new.known c.go_behind.new.self c.args.offset f g
+            (c.in_ok-is_handled.ensures.seen c.if-not-branch-2.false) (c.in_ok-note.ensures env is) c.stays_beside_writes.ensures
+            (as_many c.keeps_local_count.ensures env c.args.offset insn (names_in pass) f g left)
+            (others_stay c.writes_there.ensures env c.args.offset insn (frame_of (names_in pass) f) (frame_of (names_in pass) g) left)
+            (subst (λ (ss : List FlowedStack). AreFlowed pass ss g) (sym (c.go_behind.ensures ∙ ap (λ n. map (lowered (n - 6)) stacks) c.height.ensures))
+            (flowed_behind pass c.leaves_below.ensures env c.args.offset insn stacks f g c.go_into.ensures.stacks left (c.go_into.ensures.object env is))),
+      );
+    }
 
 pub returns-then-not-targets_hold-clause-step : goal.returns-then-not-targets_hold-clause-step
 returns-then-not-targets_hold-clause-step c = λ env is at r.
@@ -151,44 +110,8 @@ returns-clause-step c = λ env is at r.
     refl c.in_ok-apply.ensures))
     (c.if-not-targets_hold.ensures.flows env is)
 
-pub returns-clause-locals : goal.returns-clause-locals
-returns-clause-locals c = λ none.
-    let pass = c.args.pass.now in
-    let entries = c.pass.inside.initial.now in
-    let count = c.pass.inside.words in
-    let kept : IsPass pass entries count = subst (λ (p : Pass). IsPass p entries count) c.pass.view_is c.pass.invariant in
-    let env = c.requires.method.0 in
-    let is = c.requires.method.1 in
-    let insn = instruction_of c.args.insn.now in
-    as_many c.keeps_local_count.ensures env c.args.offset insn (names_in pass) c.merge.new.frame c.apply.new.frame
-    (is_left (names_in pass) _ c.apply.new.frame _ c.if-not-branch-3.false
-    (applied pass entries count kept env is c.pass.inside.context.now insn c.merge.new.frame c.apply.new.frame _ c.args.offset _ (ap (λ (p : Pass). p.context) c.pass.view_is)
-    refl c.in_ok-apply.ensures))
-    ∙ c.merge.ensures.locals
-
-pub is_handled-requires-clause-settled : goal.is_handled-requires-clause-settled
-is_handled-requires-clause-settled c = λ env is.
-    let pass = c.args.pass.now in
-    still_settled env (maps_of pass) c.args.settled c.settled_at-settled.result c.args.falls (frame_of (names_in pass) c.args.frame.now) (frame_of (names_in pass) c.merge.new.frame) _
-    c.settled_at-settled.ensures.same (if_some c.settled_at-settled.result (λ before there. there env is) c.settled_at-settled.ensures.map)
-    (is_left (names_in pass) _ c.merge.new.frame _ c.if-not-branch.false (c.in_ok-merge.ensures.merged env is)) (c.requires.settled env is)
-
-pub returns-clause-settled : goal.returns-clause-settled
-returns-clause-settled c = λ env is keeps none.
-    let pass = c.args.pass.now in
-    let entries = c.pass.inside.initial.now in
-    let count = c.pass.inside.words in
-    let kept : IsPass pass entries count = subst (λ (p : Pass). IsPass p entries count) c.pass.view_is c.pass.invariant in
-    let insn = instruction_of c.args.insn.now in
-    let x = frame_of (names_in pass) c.merge.new.frame in
-    now_settled env (maps_of pass) c.leaves_locals.ensures c.args.offset insn x (frame_of (names_in pass) c.apply.new.frame) keeps
-    (sym c.if-not-branch-2.false ∙ c.in_ok-is_handled.ensures.hold env is)
-    (is_left (names_in pass) _ c.apply.new.frame _ c.if-not-branch-3.false
-    (applied pass entries count kept env is c.pass.inside.context.now insn c.merge.new.frame c.apply.new.frame _ c.args.offset _ (ap (λ (p : Pass). p.context) c.pass.view_is)
-    refl c.in_ok-apply.ensures))
-
-pub returns-clause-anchor : goal.returns-clause-anchor
-returns-clause-anchor c = λ none.
+pub returns-clause-seen : goal.returns-clause-seen
+returns-clause-seen c = λ none later le.
     let pass = c.args.pass.now in
     let entries = c.pass.inside.initial.now in
     let count = c.pass.inside.words in
@@ -198,8 +121,17 @@ returns-clause-anchor c = λ none.
     let insn = instruction_of c.args.insn.now in
     let f = c.merge.new.frame in
     let g = c.apply.new.frame in
+    let stacks = c.go_into.new.self.stacks.items in
     let left : rule env c.args.offset insn (frame_of (names_in pass) f) ≡ Some (frame_of (names_in pass) g) =
     is_left (names_in pass) _ g _ c.if-not-branch-3.false
     (applied pass entries count kept env is c.pass.inside.context.now insn f g _ c.args.offset _ (ap (λ (p : Pass). p.context) c.pass.view_is) refl c.in_ok-apply.ensures) in
-    anchor_behind pass (may_change env c.args.offset insn (frame_of (names_in pass) f)) c.merge.new.anchor c.note.new.anchor f.locals g.locals c.in_ok-merge.ensures.anchor
-    (c.in_ok-note.ensures.anchor env is) (others_stay c.writes_there.ensures env c.args.offset insn (frame_of (names_in pass) f) (frame_of (names_in pass) g) left)
+    let here = seen_behind pass (may_change env c.args.offset insn (frame_of (names_in pass) f)) c.is_handled.new.seen c.note.new.known c.go_behind.new.self c.args.offset f g
+    (c.in_ok-is_handled.ensures.seen c.if-not-branch-2.false) (c.in_ok-note.ensures env is) c.stays_beside_writes.ensures
+    (as_many c.keeps_local_count.ensures env c.args.offset insn (names_in pass) f g left)
+    (others_stay c.writes_there.ensures env c.args.offset insn (frame_of (names_in pass) f) (frame_of (names_in pass) g) left)
+    (subst (λ (ss : List FlowedStack). AreFlowed pass ss g) (sym (c.go_behind.ensures ∙ ap (λ n. map (lowered (n - 6)) stacks) c.height.ensures))
+    (flowed_behind pass c.leaves_below.ensures env c.args.offset insn stacks f g c.go_into.ensures.stacks left (c.go_into.ensures.object env is))) in
+    later_seen pass c.targets_hold.new.seen c.args.offset later c.apply.new.frame le (c.targets_hold.ensures.seen c.args.offset here)
+
+pub go_into-requires : goal.go_into-requires
+go_into-requires c = (c.in_ok-is_handled.ensures.seen c.if-not-branch-2.false).stacks

@@ -4,8 +4,7 @@ use Rattle.jv_code.specs.Switches.{distances_in}
 use Rattle.jv_meaning_typing.specs.Environment.{Environment}
 use Rattle.jv_verify_types.specs.Numbered.{frame_of}
 use Rattle.jv_verify_pass.specs.Pass.{IsOfPass, maps_of, names_in}
-use Rattle.jv_verify_pass.specs.Inside.Flowed.{HaveFlowed}
-use Rattle.jv_verify_pass.specs.Inside.Stacks.{AreFlowed}
+use Rattle.jv_verify_pass.specs.Inside.Seen.{StaysSeen}
 use Rattle.jv_verify_pass.specs.Inside.Walk.{distance_holds}
 use Rattle.jv_verify_pass.proofs.targets.distances_hold.Given as goal
 
@@ -14,8 +13,7 @@ invariant-loop-distance l =
     ((env : Environment) → IsOfPass l.pass env
     → list_all (distance_holds env (maps_of l.pass) (frame_of (names_in l.pass) l.frame) l.offset) (distances_in l.distances)
     ≡ list_all (distance_holds env (maps_of l.pass) (frame_of (names_in l.pass) l.frame) l.offset) (distances_in l.left))
-    × HaveFlowed l.pass l.flowed.writes.items l.flowed.frames.items l.frame.locals
-    × AreFlowed l.pass l.stacks.stacks.items l.frame
+    × StaysSeen l.pass l.frame l.fn.seen l.seen
 
 abbrev pub decreases-loop-distance : goal.decreases-loop-distance
 decreases-loop-distance l = length l.left

@@ -12,3 +12,9 @@ returns-then-distance_holds-clause-flows c = λ env is.
     pairs env (maps_of c.args.pass.now) (frame_of (names_in c.args.pass.now) c.args.frame.now) c.args.offset c.args.default (pairs_in c.args.pairs.now) c.distance_holds.result c.pairs_hold.result
     (c.distance_holds.ensures.flows env is ∙ ap (distance_holds env (maps_of c.args.pass.now) (frame_of (names_in c.args.pass.now) c.args.frame.now)
     c.args.offset) (to_z-of_z w32 c.args.default c.ranges.default)) c.if-distance_holds.true (c.pairs_hold.ensures.flows env is)
+
+pub pairs_hold-requires : goal.pairs_hold-requires
+pairs_hold-requires c = record { seen = (c.requires.seen.0, c.distance_holds.ensures.seen c.requires.seen.0 c.requires.seen.1) }
+
+pub returns-then-distance_holds-clause-seen : goal.returns-then-distance_holds-clause-seen
+returns-then-distance_holds-clause-seen c = λ at seen. c.pairs_hold.ensures.seen at (c.distance_holds.ensures.seen at seen)

@@ -13,3 +13,9 @@ returns-then-distance_holds-clause-flows c = λ env is.
     (distances_in c.args.distances.now) c.distance_holds.result c.distances_hold.result
     (c.distance_holds.ensures.flows env is ∙ ap (distance_holds env (maps_of c.args.pass.now) (frame_of (names_in c.args.pass.now) c.args.frame.now)
     c.args.offset) (to_z-of_z w32 c.args.default c.ranges.default)) c.if-distance_holds.true (c.distances_hold.ensures.flows env is)
+
+pub distances_hold-requires : goal.distances_hold-requires
+distances_hold-requires c = record { seen = (c.requires.seen.0, c.distance_holds.ensures.seen c.requires.seen.0 c.requires.seen.1) }
+
+pub returns-then-distance_holds-clause-seen : goal.returns-then-distance_holds-clause-seen
+returns-then-distance_holds-clause-seen c = λ at seen. c.distances_hold.ensures.seen at (c.distance_holds.ensures.seen at seen)

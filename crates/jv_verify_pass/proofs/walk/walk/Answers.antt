@@ -1,12 +1,8 @@
-use Rattle.std.proofs.Common.{◌≡◌, ℕ, true, false, List, sym, ap, subst, ◌∙◌}
-use Rattle.std.specs.List.{list_all}
+use Rattle.std.proofs.Common.{◌≡◌, ℕ, true, false, List, sym, ap, subst, ◌∙◌, arith}
 use Rattle.jv_code.specs.Places.{IsStartOrEnd}
 use Rattle.jv_code.specs.Insns.{instruction_of}
 use Rattle.jv_verify_types.specs.Numbered.{frame_of}
 use Rattle.jv_verify_pass.specs.Pass.{Pass, maps_of, names_in}
-use Rattle.jv_verify_rules.specs.Laws.{keeps_locals}
-use Rattle.jv_verify_pass.specs.Inside.Opening.{passes_at}
-use Rattle.jv_verify_pass.proofs.Settling.{settled_by}
 use Rattle.jv_verify_pass.proofs.Passing.{start_here, at_is, step_broken, at_end, goes_further, is_whole}
 use Rattle.jv_verify_pass.proofs.walk.walk.Goals.{else-falls-via-then-falls+else-next-size, else-falls-via-else-falls}
 use Rattle.jv_verify_pass.proofs.walk.walk.Goals as goal
@@ -46,7 +42,7 @@ loop-offset-preserved c =
       | else-falls-via-then-falls+else-next-size w ↦ w.if-next-size.false e
       | else-falls-via-else-falls w ↦ absurd (clash (sym w.if-falls.false ∙ t))
     ] in (
-      c.in_ok-rule.ensures.locals c.in_default.is,
+      c.in_ok-rule.ensures.seen c.in_default.is c.insn_at-next.result.1 (let rises = c.insn_at-next.ensures.rises in omega (arith, rises)),
       subst (λ (b : List ℕ). IsStartOrEnd b c.insn_at-next.result.1) code c.insn_at-next.ensures.goes_on,
       λ env is r.
           let maps = maps_of c.args.pass.now in
@@ -57,12 +53,6 @@ loop-offset-preserved c =
           goes_further c.stands_in_list.ensures c.starts_apart.ensures env is.is maps c.args.pass.now.context.code c.code-code.result.now.bytes.now c.size-size.result c.loop-offset.offset
           c.insn_at-next.result.1 insn left c.in_ok-rule.field-0 c.falls_through-falls.result code is.context.code c.size-size.ensures.bytes c.insn_at-next.ensures.insn c.insn_at-next.ensures.next
           c.falls_through-falls.ensures not_last c.in_default.is (c.in_ok-rule.ensures.step env is at (c.loop-offset.invariant.2 env is r).reaches),
-      λ env is. settled_by env (maps_of c.args.pass.now) (keeps_locals (instruction_of c.insn_at-next.result.0)) c.settled_by-settled.result c.loop-offset.offset
-          (frame_of (names_in c.args.pass.now) c.step.new.frame) c.settled_by-settled.ensures (λ keeps. c.in_ok-rule.ensures.settled env is keeps c.in_default.is),
-      c.in_ok-rule.ensures.anchor c.in_default.is,
-      λ offset test. ap (list_all (passes_at offset test)) c.step.ensures.openings ∙ c.loop-offset.invariant.5 offset test,
-      c.in_ok-rule.ensures.flowed c.in_default.is,
-      c.in_ok-rule.ensures.stacks c.in_default.is,
     )
   where
     clash : false ≡ true → ⊥

@@ -1,27 +1,18 @@
-use Rattle.std.proofs.Common.{◌≡◌, ◌-◌, length, Some}
+use Rattle.std.proofs.Common.{◌-◌, length, Some}
 use Rattle.jv_code.specs.Places.{IsStartOrEnd}
 use Rattle.jv_meaning_typing.specs.Environment.{Environment}
 use Rattle.jv_verify_types.specs.Numbered.{frame_of}
 use Rattle.jv_verify_pass.specs.Pass.{IsOfPass, maps_of, names_in}
-use Rattle.jv_verify_pass.specs.Inside.Anchor.{IsAnchor}
-use Rattle.jv_verify_pass.specs.Inside.Opening.{AreOpenings}
-use Rattle.jv_verify_pass.specs.Inside.Flowed.{HaveFlowed}
-use Rattle.jv_verify_pass.specs.Inside.Settled.{AreSettled}
-use Rattle.jv_verify_pass.specs.Inside.Stacks.{AreFlowed}
+use Rattle.jv_verify_pass.specs.Inside.Seen.{IsSeen}
 use Rattle.jv_verify_pass.specs.Inside.Walk.{Reaches, Progress, when_falls}
 use Rattle.jv_verify_pass.proofs.walk.walk.Given as goal
 
 abbrev pub invariant-loop-offset : goal.invariant-loop-offset
 invariant-loop-offset l =
-    (length l.frame.locals ≡ l.pass.max_locals)
+    IsSeen l.pass l.seen l.offset l.frame
     × IsStartOrEnd l.pass.context.code l.offset
     × ((env : Environment) → IsOfPass l.pass env → Reaches env (maps_of l.pass) 0 (Some (frame_of (names_in l.pass) l.fn.frame))
     → Progress env (maps_of l.pass) l.offset (when_falls l.falls (frame_of (names_in l.pass) l.frame)))
-    × ((env : Environment) → IsOfPass l.pass env → AreSettled env (maps_of l.pass) l.settled (frame_of (names_in l.pass) l.frame))
-    × IsAnchor l.pass l.anchor l.frame
-    × AreOpenings l.pass l.openings
-    × HaveFlowed l.pass l.flowed.writes.items l.flowed.frames.items l.frame.locals
-    × AreFlowed l.pass l.stacks.stacks.items l.frame
 
 abbrev pub decreases-loop-offset : goal.decreases-loop-offset
 decreases-loop-offset l = length l.pass.context.code - l.offset
