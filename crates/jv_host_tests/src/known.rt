@@ -61,8 +61,9 @@ impl Sink for Counted {
 }
 
 /// Words, how many bytes the report has, and how many texts are told with the errors.
-static NUMBERS: [(&str, usize, usize); 3] = [
+static NUMBERS: [(&str, usize, usize); 4] = [
     ("jvhost check any", 14, 0),
+    ("jvhost run --raw 1 folder", 0, 1),
     ("jvhost run --stdin 2 folder", 0, 1),
     ("jvhost run --rounds 0 folder", 0, 1),
 ];

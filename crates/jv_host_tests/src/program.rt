@@ -444,6 +444,82 @@ pub(crate) static REPORTS: [Row; 8] = [
     },
 ];
 
+/// What a guest wrote goes to the output as it is, and the report with the errors.
+static RAW: [Row; 4] = [
+    Row {
+        words: "jvhost run --raw 1 hi",
+        input: b"",
+        good: 0,
+        status: 0,
+        out: ["Hi", ""],
+        err: Some(HI_TOLD),
+    },
+    Row {
+        words: "jvhost run --raw 1 --stdin 1 --quantum 4 --rounds 2 p",
+        input: b"AB",
+        good: 2,
+        status: 5,
+        out: ["AB", ""],
+        err: Some(
+            "guest 1 p\n  P.class: Accepted\n  steps 8\n  throws 0\n  output 2: AB\n  end Running\n",
+        ),
+    },
+    Row {
+        words: "jvhost run --raw 2 hi",
+        input: b"",
+        good: 0,
+        status: 2,
+        out: ["", ""],
+        err: Some("jvhost: NoGuest\n"),
+    },
+    Row {
+        words: "jvhost run --raw 1 none",
+        input: b"",
+        good: 0,
+        status: 3,
+        out: ["", ""],
+        err: Some("jvhost: none: cannot be read\n"),
+    },
+];
+
+/// Reports in JSON.
+static JSON: [Row; 3] = [
+    Row {
+        words: "jvhost run --json hi",
+        input: b"",
+        good: 0,
+        status: 0,
+        out: [
+            "{\"end\":\"Returned\",\"files\":[{\"file\":\"Hi.class\",\"verdict\":\"Accepted\"}],",
+            "\"folder\":\"hi\",\"guest\":1,\"output\":\"Hi\",\"steps\":6,\"throws\":0}\n",
+        ],
+        err: Some(""),
+    },
+    // What is no UTF-8 is escaped, and whole in base64.
+    Row {
+        words: "jvhost run --json --stdin 1 --quantum 4 --rounds 4 p",
+        input: b"A",
+        good: 2,
+        status: 5,
+        out: [
+            "{\"end\":\"Running\",\"files\":[{\"file\":\"P.class\",\"verdict\":\"Accepted\"}],\"folder\":\"p\",\"guest\":1,",
+            "\"output\":\"A\\\\xff\\\\xff\\\\xff\\\\xff\",\"output_base64\":\"Qf////8=\",\"steps\":16,\"throws\":0}\n",
+        ],
+        err: Some(""),
+    },
+    Row {
+        words: "jvhost check --json hi/Hi.class hi/main",
+        input: b"",
+        good: 0,
+        status: 1,
+        out: [
+            "{\"file\":\"hi/Hi.class\",\"verdict\":\"Accepted\"}\n",
+            "{\"file\":\"hi/main\",\"verdict\":\"Format\"}\n",
+        ],
+        err: Some(""),
+    },
+];
+
 /// Words that are refused, and nothing is on the output.
 pub(crate) static REFUSALS: [Row; 17] = [
     Row {
@@ -673,6 +749,24 @@ fn refuses(rt: HostRuntime) {
 fn feeds(rt: HostRuntime) {
     let passes = match RandomState::new(&rt) {
         Ok(state) => does_all(rt.alloc(), state, &FEEDS),
+        Err(_) => false,
+    };
+    assert!(rt; passes);
+}
+
+#[test]
+fn shows_raw(rt: HostRuntime) {
+    let passes = match RandomState::new(&rt) {
+        Ok(state) => does_all(rt.alloc(), state, &RAW),
+        Err(_) => false,
+    };
+    assert!(rt; passes);
+}
+
+#[test]
+fn shows_json(rt: HostRuntime) {
+    let passes = match RandomState::new(&rt) {
+        Ok(state) => does_all(rt.alloc(), state, &JSON),
         Err(_) => false,
     };
     assert!(rt; passes);

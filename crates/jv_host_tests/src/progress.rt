@@ -1,4 +1,4 @@
-//! What `--progress` tells, and where.
+//! What `--progress` and `--time` tell, and where.
 
 use crate::program::{Memory, Pieces, words_of};
 use jv_program::{ProgressLine, Stream, command_watched};
@@ -7,7 +7,7 @@ use std::cell::Cell;
 use std::hash::RandomState;
 use std::io;
 use std::io::{IsTerminal, Write};
-use std::time::{Clock, Duration};
+use std::time::{Clock, CpuClock, Duration};
 
 /// A clock that is a second further each time that it is read.
 #[derive(Drop)]
@@ -22,6 +22,17 @@ impl Clock for Ticks {
 
     fn since_1970(&self) -> io::Result<Duration> {
         Ok(Duration::from_secs(0))
+    }
+}
+
+/// The processor took 7 milliseconds and a half.
+impl CpuClock for Ticks {
+    fn thread_cpu_time(&self) -> io::Result<Duration> {
+        Ok(Duration::from_micros(7500))
+    }
+
+    fn process_cpu_time(&self) -> io::Result<Duration> {
+        Ok(Duration::from_micros(7500))
     }
 }
 
@@ -73,6 +84,7 @@ fn tells(
         bytes: &mut bytes,
         is_terminal,
     };
+    let mut company = ProgressLine::new(&clock, screen);
     let ends = command_watched(
         alloc,
         state,
@@ -81,8 +93,9 @@ fn tells(
         &mut input,
         &mut out,
         &mut err,
-        &mut ProgressLine::new(&clock, screen),
+        &mut company,
     );
+    company.tell_time();
     ends == status && bytes.as_slice() == text && err.0.is_empty()
 }
 
@@ -124,6 +137,16 @@ fn nothing_is_told_where_nobody_asks(rt: HostRuntime) {
     let line = "jvhost run --quantum 2 --rounds 3 p hi";
     let passes = match RandomState::new(&rt) {
         Ok(state) => tells(rt.alloc(), state, line, true, 5, b""),
+        Err(_) => false,
+    };
+    assert!(rt; passes);
+}
+
+#[test]
+fn the_time_is_told_where_there_is_no_terminal(rt: HostRuntime) {
+    let line = "jvhost run --time --quantum 2 --rounds 3 p hi";
+    let passes = match RandomState::new(&rt) {
+        Ok(state) => tells(rt.alloc(), state, line, false, 5, b"processor 7 ms\n"),
         Err(_) => false,
     };
     assert!(rt; passes);

@@ -1,7 +1,8 @@
 -- How the program ends.
-use Rattle.std.proofs.Common.{◌≡◌, ◌≢◌, ◌⊎◌, ℕ, Bool, true, false, List, Option, Result, Ok, Err, refl, sym, subst, ◌∙◌, inl, inr}
-use Rattle.std.specs.Prelude.{IfErr, IfOk, IsErrAnd, IsOk, IsTrue, OnErr, OnOk, string_bytes}
+use Rattle.std.proofs.Common.{◌≡◌, ◌≢◌, ◌⊎◌, ◌++◌, ℕ, Bool, true, false, List, Option, None, Result, Ok, Err, refl, sym, subst, ◌∙◌, inl, inr}
+use Rattle.std.specs.Prelude.{IfErr, IfOk, IsErrAnd, IsOk, IsTrue, OnErr, OnOk}
 use Rattle.std.specs.Io.KnownBytes.{Appends}
+use Rattle.std.proofs.KnownBytes.{Appends-trans}
 use Rattle.clap.specs.Values.{kind_of}
 use Rattle.clap.specs.Words.{IsAmong, fault_of}
 use Rattle.clap.specs.declared.error.Error.{Error}
@@ -17,10 +18,10 @@ use Rattle.jv_program_words.specs.declared.asked.RunOptions.{RunOptions}
 use Rattle.jv_program_words.specs.Settings.Asked.{run, check, explain}
 use Rattle.jv_program_words.specs.CommandLine.{command_line}
 use Rattle.jv_program_words.specs.Settings.{AskFor, AskForHelp, AreRefused}
-use Rattle.jv_program.specs.Command.{AreWrong, HasEnded, IsReport, settings_of, streams}
+use Rattle.jv_program.specs.Command.{AreWrong, AskForCompany, HasEnded, IsReport, IsToldBeside, settings_of, streams}
 use Rattle.jv_program.specs.Inside.Stops.{IsCarriedOut, IsEarly}
 use Rattle.jv_program.specs.Status.{HasStatus, IsAsked, IsStatusOf, output_line}
-use Rattle.jv_program.specs.Written.{WritesCut}
+use Rattle.jv_program.specs.Written.{WritesCut, beside_of, shown_of}
 use Rattle.jv_program.specs.declared.stop.Stop.{Stop}
 use Rattle.jv_program.specs.declared.stop.Stop.TheVariants.{CommandLine, Run, Output}
 
@@ -81,75 +82,108 @@ told_of sure mid new e0 e1 told stop result same quiet calm failure output is_su
 }
 
 abbrev pub IsToldAfter : Bool → Option (List ℕ) → Option (List ℕ) → Option (List ℕ) → Option (List ℕ) → Result Outcome Stop → Type 0
-IsToldAfter sure mid new e0 e1 (Ok outcome) = (new ≡ mid) × (e1 ≡ e0)
-IsToldAfter sure mid new e0 e1 (Err stop) = IsToldOf sure mid new e0 e1 stop
+IsToldAfter sure mid new e1 e2 (Ok outcome) = (new ≡ mid) × (e2 ≡ e1)
+IsToldAfter sure mid new e1 e2 (Err stop) = IsToldOf sure mid new e1 e2 stop
 
--- without one, or with a part of it; behind that something may be told
-stopped : (disk : Option Disk) (so se : Bool) (line : List (List ℕ)) (b0 b1 old mid new e0 e1 : Option (List ℕ)) (stop : Stop) (status : ℕ)
-    → IsCarriedOut disk so line b0 b1 old mid (Err stop) → IsToldOf se mid new e0 e1 stop
-    → HasStatus stop status → HasEnded disk so se line (streams b0 old e0) (streams b1 new e1) status
-stopped disk so se line b0 b1 old mid new e0 e1 (CommandLine error) status done told is =
+-- with nothing, or with what goes to the output or a part of it; behind that something may be told
+stopped : (disk : Option Disk) (so se : Bool) (line : List (List ℕ)) (b0 b1 old mid new e0 e1 e2 : Option (List ℕ)) (stop : Stop) (status : ℕ)
+    → IsCarriedOut disk so se line (streams b0 old e0) (streams b1 mid e1) (Err stop) → IsToldOf se mid new e1 e2 stop
+    → HasStatus stop status → HasEnded disk so se line (streams b0 old e0) (streams b1 new e2) status
+stopped disk so se line b0 b1 old mid new e0 e1 e2 (CommandLine error) status done told is =
     elim (asked_or_not (kind_of error)) [
       | inl asked ↦
-          inr (inr (inr (record { asked = help_asked line error done.0.0 asked; unread = done.0.2; quiet = told.calm asked; ends = is.asked asked })))
+          inr (inr (inr (record {
+            asked = help_asked line error done.0.0 asked;
+            unread = done.0.2;
+            quiet = told.calm asked ∙ done.2;
+            ends = is.asked asked;
+          })))
       | inr not ↦
           let same : new ≡ mid = told.quiet (λ h. elim h [ inl help ↦ not.0 help | inr version ↦ not.1 version ]) in
           let wrong : AreWrong line b0 b1 =
           record { error = error; refused = done.0.0; no_help = not.0; no_version = not.1; had_memory = done.0.1; unread = done.0.2 } in
           inr (inr (inl (record { nothing = same ∙ done.1; why = inl (wrong, is.wrong not.0 not.1) })))
     ]
-stopped disk so se line b0 b1 old mid new e0 e1 (Run failure) status done told is =
-    inr (inr (inl (record { nothing = told.quiet (λ h. h) ∙ done.1; why = inr (record { failure = failure; why = done.0; told = told.failure failure refl; ends = is }) })))
-stopped disk so se line b0 b1 old mid new e0 e1 Output status done told is =
+stopped disk so se line b0 b1 old mid new e0 e1 e2 (Run failure) status done told is =
+    inr (inr (inl (record {
+      nothing = told.quiet (λ h. h) ∙ done.1;
+      why = inr (record {
+        failure = failure;
+        why = done.0;
+        told = λ yes. subst (λ e. Appends e e2 (failure_line failure)) done.2 (told.failure failure refl yes);
+        ends = is;
+      });
+    })))
+stopped disk so se line b0 b1 old mid new e0 e1 e2 Output status done told is =
     let same : new ≡ mid = told.quiet (λ h. h) in
     inr (inl (record {
       outcome = done.0;
       report = done.1;
-      front = subst (λ (o : Option (List ℕ)). WritesCut old o (string_bytes done.0.report)) (sym same) done.2;
+      front = subst (λ (o : Option (List ℕ)). WritesCut old o (shown_of done.0)) (sym same) done.2;
       unsure = done.3;
-      told = told.output refl;
+      told = λ yes. Appends-trans e0 e1 e2 (beside_of done.0) output_line (done.4.told yes) (told.output refl yes);
       ends = is;
     }))
 
 -- what ends the program before anything is written
-pub early : (disk : Option Disk) (so : Bool) (line : List (List ℕ)) (b0 b1 old new : Option (List ℕ)) (stop : Stop) → IsEarly disk line b0 b1 stop → new ≡ old
-    → IsCarriedOut disk so line b0 b1 old new (Err stop)
-early disk so line b0 b1 old new (CommandLine error) h same = (h, same)
-early disk so line b0 b1 old new (Run failure) h same = (h, same)
-early disk so line b0 b1 old new Output h same = absurd h
+pub early : (disk : Option Disk) (so se : Bool) (line : List (List ℕ)) (b0 b1 old e0 : Option (List ℕ)) (stop : Stop) → IsEarly disk line b0 b1 stop
+    → IsCarriedOut disk so se line (streams b0 old e0) (streams b1 old e0) (Err stop)
+early disk so se line b0 b1 old e0 (CommandLine error) h = (h, refl, refl)
+early disk so se line b0 b1 old e0 (Run failure) h = (h, refl, refl)
+early disk so se line b0 b1 old e0 Output h = absurd h
 
-pub early_result : (disk : Option Disk) (so : Bool) (line : List (List ℕ)) (b0 b1 old new : Option (List ℕ)) (result : Result Outcome Stop) (stop : Stop)
-    → IsErrAnd result (λ e. e ≡ stop) → IsEarly disk line b0 b1 stop → new ≡ old → IsCarriedOut disk so line b0 b1 old new result
-early_result disk so line b0 b1 old new (Ok outcome) stop is h same = absurd is
-early_result disk so line b0 b1 old new (Err e) stop is h same =
-    subst (λ (s : Stop). IsCarriedOut disk so line b0 b1 old new (Err s)) (sym is) (early disk so line b0 b1 old new stop h same)
+pub early_result : (disk : Option Disk) (so se : Bool) (line : List (List ℕ)) (b0 b1 old e0 : Option (List ℕ)) (result : Result Outcome Stop) (stop : Stop)
+    → IsErrAnd result (λ e. e ≡ stop) → IsEarly disk line b0 b1 stop → IsCarriedOut disk so se line (streams b0 old e0) (streams b1 old e0) result
+early_result disk so se line b0 b1 old e0 (Ok outcome) stop is h = absurd is
+early_result disk so se line b0 b1 old e0 (Err e) stop is h =
+    subst (λ (s : Stop). IsCarriedOut disk so se line (streams b0 old e0) (streams b1 old e0) (Err s)) (sym is) (early disk so se line b0 b1 old e0 stop h)
 
 not_sure : (so : Bool) (result : Result Outcome Stop) (stop : Stop) → result ≡ Err stop → (IsTrue so → IsOk result) → so ≡ false
 not_sure false result stop is sure = refl
 not_sure true result stop is sure = absurd (let no = subst IsOk is (sure refl) in cc)
 
--- a report that is written
-pub written : (disk : Option Disk) (so : Bool) (line : List (List ℕ)) (b0 b1 old new : Option (List ℕ)) (outcome : Outcome) (result : Result Outcome Stop) → IsReport disk line b0 b1 outcome
-    → OnOk result (Appends old new (string_bytes outcome.report)) → IfOk result (λ w. w ≡ outcome) → OnErr result (WritesCut old new (string_bytes outcome.report))
-    → IfErr result (λ stop. stop ≡ Output) → (IsTrue so → IsOk result) → IsCarriedOut disk so line b0 b1 old new result
-written disk so line b0 b1 old new outcome (Ok w) report whole same cut lost sure =
-    subst (λ (o : Outcome). IsReport disk line b0 b1 o × Appends old new (string_bytes o.report)) (sym same) (report, whole)
-written disk so line b0 b1 old new outcome (Err stop) report whole same cut lost sure =
-    subst (λ (s : Stop). IsCarriedOut disk so line b0 b1 old new (Err s)) (sym lost) (outcome, report, cut, not_sure so (Err stop) stop refl sure)
+-- what goes to the output is written, and the report told before where it has no place there
+pub written : (disk : Option Disk) (so se : Bool) (line : List (List ℕ)) (b0 b1 old new e0 e1 : Option (List ℕ)) (outcome : Outcome) (result : Result Outcome Stop)
+    → IsReport disk line b0 b1 outcome → (IsTrue se → Appends e0 e1 (beside_of outcome)) → (outcome.raw ≡ None → e1 ≡ e0)
+    → OnOk result (Appends old new (shown_of outcome)) → IfOk result (λ w. w ≡ outcome) → OnErr result (WritesCut old new (shown_of outcome))
+    → IfErr result (λ stop. stop ≡ Output) → (IsTrue so → IsOk result) → IsCarriedOut disk so se line (streams b0 old e0) (streams b1 new e1) result
+written disk so se line b0 b1 old new e0 e1 outcome (Ok w) report told quiet whole same cut lost sure =
+    let beside : IsToldBeside se (streams b0 old e0) (streams b1 new e1) outcome = record { told = told; quiet = quiet } in
+    subst (λ (o : Outcome). IsReport disk line b0 b1 o × Appends old new (shown_of o) × IsToldBeside se (streams b0 old e0) (streams b1 new e1) o) (sym same)
+    (report, whole, beside)
+written disk so se line b0 b1 old new e0 e1 outcome (Err stop) report told quiet whole same cut lost sure =
+    let beside : IsToldBeside se (streams b0 old e0) (streams b1 new e1) outcome = record { told = told; quiet = quiet } in
+    subst (λ (s : Stop). IsCarriedOut disk so se line (streams b0 old e0) (streams b1 new e1) (Err s)) (sym lost)
+    (outcome, report, cut, not_sure so (Err stop) stop refl sure, beside)
 
--- with a report and nothing to tell, or without one
-pub ended : (disk : Option Disk) (so se : Bool) (line : List (List ℕ)) (b0 b1 old mid new e0 e1 : Option (List ℕ)) (end : Result Outcome Stop) (status : ℕ)
-    → IsCarriedOut disk so line b0 b1 old mid end → IsToldAfter se mid new e0 e1 end → IsStatusOf end status
-    → HasEnded disk so se line (streams b0 old e0) (streams b1 new e1) status
-ended disk so se line b0 b1 old mid new e0 e1 (Ok outcome) status done told is =
+-- with a report and nothing more to tell, or without one
+pub ended : (disk : Option Disk) (so se : Bool) (line : List (List ℕ)) (b0 b1 old mid new e0 e1 e2 : Option (List ℕ)) (end : Result Outcome Stop) (status : ℕ)
+    → IsCarriedOut disk so se line (streams b0 old e0) (streams b1 mid e1) end → IsToldAfter se mid new e1 e2 end → IsStatusOf end status
+    → HasEnded disk so se line (streams b0 old e0) (streams b1 new e2) status
+ended disk so se line b0 b1 old mid new e0 e1 e2 (Ok outcome) status done told is =
     inl (record {
       outcome = outcome;
       report = done.0;
-      written = subst (λ (o : Option (List ℕ)). Appends old o (string_bytes outcome.report)) (sym told.0) done.1;
-      quiet = told.1;
+      written = subst (λ (o : Option (List ℕ)). Appends old o (shown_of outcome)) (sym told.0) done.1;
+      beside = record {
+        told = λ yes. subst (λ e. Appends e0 e (beside_of outcome)) (sym told.1) (done.2.told yes);
+        quiet = λ none. told.1 ∙ done.2.quiet none;
+      };
       ends = is;
     })
-ended disk so se line b0 b1 old mid new e0 e1 (Err stop) status done told is = stopped disk so se line b0 b1 old mid new e0 e1 stop status done told is
+ended disk so se line b0 b1 old mid new e0 e1 e2 (Err stop) status done told is = stopped disk so se line b0 b1 old mid new e0 e1 e2 stop status done told is
+
+-- ---- what is not asked for
+
+not_so : (b : Bool) → (b ≡ true → ⊥) → b ≡ false
+not_so true refused = absurd (refused refl)
+not_so false refused = refl
+
+-- where nothing is to be told besides, neither option is there
+pub alone : (line : List (List ℕ)) (options : RunOptions) (folders : List (List ℕ)) → AskFor line (run options folders) → (AskForCompany line → ⊥)
+    → (options.progress ≡ false) × (options.time ≡ false)
+alone line options folders asked none =
+    (not_so options.progress (λ yes. none (options, folders, asked, inl yes)), not_so options.time (λ yes. none (options, folders, asked, inr yes)))
 
 -- ---- why there is no report
 
@@ -158,10 +192,10 @@ module _ (disk : Option Disk) (line : List (List ℕ)) (b0 b1 : Option (List ℕ
       → IsRunFailure disk (settings_of options) folders b0 b1 failure → IsEarly disk line b0 b1 (Run failure)
   run_failed options folders failure asked failed = inl (record { options = options; folders = folders; asked = asked; failed = failed })
 
-  pub check_failed : (names : List (List ℕ)) (failure : Failure) → AskFor line (check names) → IsNamedFailure disk names failure → b1 ≡ b0
+  pub check_failed : (json : Bool) (names : List (List ℕ)) (failure : Failure) → AskFor line (check json names) → IsNamedFailure disk names failure → b1 ≡ b0
       → IsEarly disk line b0 b1 (Run failure)
-  check_failed names failure asked failed unread = inr (inl (record { names = names; asked = inl asked; failed = failed; unread = unread }))
+  check_failed json names failure asked failed unread = inr (inl (record { json = json; names = names; asked = inl asked; failed = failed; unread = unread }))
 
-  pub explain_failed : (names : List (List ℕ)) (failure : Failure) → AskFor line (explain names) → IsNamedFailure disk names failure → b1 ≡ b0
+  pub explain_failed : (json : Bool) (names : List (List ℕ)) (failure : Failure) → AskFor line (explain json names) → IsNamedFailure disk names failure → b1 ≡ b0
       → IsEarly disk line b0 b1 (Run failure)
-  explain_failed names failure asked failed unread = inr (inl (record { names = names; asked = inr asked; failed = failed; unread = unread }))
+  explain_failed json names failure asked failed unread = inr (inl (record { json = json; names = names; asked = inr asked; failed = failed; unread = unread }))

@@ -1,5 +1,5 @@
 -- How the program ends, and what it has written then (own).
-use Rattle.std.specs.Prelude.{◌≡◌, ◌≢◌, ◌⊎◌, ℕ, Bool, true, false, IsTrue, List, Option, string_bytes}
+use Rattle.std.specs.Prelude.{◌≡◌, ◌≢◌, ◌⊎◌, ◌++◌, ℕ, Bool, true, false, IsTrue, List, Option, None}
 use Rattle.std.specs.Io.KnownBytes.{Appends}
 use Rattle.clap.specs.Values.{kind_of}
 use Rattle.clap.specs.declared.error.Error.{Error}
@@ -17,7 +17,7 @@ use Rattle.jv_program_words.specs.declared.asked.RunOptions.{RunOptions}
 use Rattle.jv_program_words.specs.Settings.{AskFor, AskForHelp, AreRefused}
 use Rattle.jv_program_words.specs.Settings.Asked.{run, check, explain}
 use Rattle.jv_program.specs.Status.{output_line}
-use Rattle.jv_program.specs.Written.{WritesCut}
+use Rattle.jv_program.specs.Written.{WritesCut, beside_of, shown_of}
 
 -- the settings with these options
 abbrev pub settings_of : RunOptions → RunSettings
@@ -26,21 +26,25 @@ settings_of options = record {
   quantum = options.quantum;
   rounds = options.rounds;
   stdin = options.stdin;
+  raw = options.raw;
+  json = options.json;
 }
 
 -- ---- what there is to read
 
--- The words ask for a check, for explanations, or to run folders that are taken: at most 64, the guest that is fed among them. Else
--- nothing is opened.
+-- The words ask for a check, for explanations, or to run folders that are taken: at most 64, the guests that the options name among them.
+-- Else nothing is opened.
 abbrev pub IsBegun : (line : List (List ℕ)) → Type 0
 IsBegun line =
     ((options : RunOptions) × (folders : List (List ℕ)) × AskFor line (run options folders) × AreTaken (settings_of options) folders)
-    ⊎ (((names : List (List ℕ)) × AskFor line (check names)) ⊎ ((names : List (List ℕ)) × AskFor line (explain names)))
+    ⊎ (((json : Bool) × (names : List (List ℕ)) × AskFor line (check json names))
+    ⊎ ((json : Bool) × (names : List (List ℕ)) × AskFor line (explain json names)))
 
--- the words ask to run the guests of folders, and to be told on the way how far the run is
-abbrev pub AskForProgress : (line : List (List ℕ)) → Type 0
-AskForProgress line =
-    (options : RunOptions) × (folders : List (List ℕ)) × AskFor line (run options folders) × (options.progress ≡ true)
+-- the words ask to run the guests of folders, and to be told besides how far the run is, or how long the processor took
+abbrev pub AskForCompany : (line : List (List ℕ)) → Type 0
+AskForCompany line =
+    (options : RunOptions) × (folders : List (List ℕ)) × AskFor line (run options folders)
+    × ((options.progress ≡ true) ⊎ (options.time ≡ true))
 
 -- ---- reports
 
@@ -54,16 +58,18 @@ pub record IsRunReport (disk : Option Disk) (line : List (List ℕ)) (before aft
 
 -- The words ask to check class files, and the report is on these. Nothing is read of the input.
 pub record IsCheckReport (disk : Option Disk) (line : List (List ℕ)) (before after : Option (List ℕ)) (outcome : Outcome) : Type 0 where
+  pub json : Bool
   pub names : List (List ℕ)
-  pub asked : AskFor line (check names)
-  pub checked : IsCheckedAs disk names outcome
+  pub asked : AskFor line (check json names)
+  pub checked : IsCheckedAs disk json names outcome
   pub unread : after ≡ before
 
 -- The words ask to explain the verdicts on class files, and the report is on these. Nothing is read of the input.
 pub record IsExplainReport (disk : Option Disk) (line : List (List ℕ)) (before after : Option (List ℕ)) (outcome : Outcome) : Type 0 where
+  pub json : Bool
   pub names : List (List ℕ)
-  pub asked : AskFor line (explain names)
-  pub explained : IsExplainedAs disk names outcome
+  pub asked : AskFor line (explain json names)
+  pub explained : IsExplainedAs disk json names outcome
   pub unread : after ≡ before
 
 -- the report is what the words ask for
@@ -83,8 +89,9 @@ pub record IsRunFailed (disk : Option Disk) (line : List (List ℕ)) (before aft
 
 -- or to check class files, or to explain the verdicts on them
 pub record IsCheckFailed (disk : Option Disk) (line : List (List ℕ)) (before after : Option (List ℕ)) (failure : Failure) : Type 0 where
+  pub json : Bool
   pub names : List (List ℕ)
-  pub asked : AskFor line (check names) ⊎ AskFor line (explain names)
+  pub asked : AskFor line (check json names) ⊎ AskFor line (explain json names)
   pub failed : IsNamedFailure disk names failure
   pub unread : after ≡ before
 
@@ -118,22 +125,28 @@ streams input output errors = record { input = input; output = output; errors = 
 abbrev pub IsTold : (sure : Bool) → (before after : Streams) → (line : List ℕ) → Type 0
 IsTold sure before after line = IsTrue sure → Appends before.errors after.errors line
 
--- a report that was written whole, behind what was on the output; nothing is told
-pub record IsReported (disk : Option Disk) (line : List (List ℕ)) (before after : Streams) (status : ℕ) : Type 0 where
+-- a report is told with the errors where what a guest wrote takes its place on the output; else nothing is told
+pub record IsToldBeside (sure : Bool) (before after : Streams) (outcome : Outcome) : Type 0 where
+  pub told : IsTold sure before after (beside_of outcome)
+  pub quiet : outcome.raw ≡ None → after.errors ≡ before.errors
+
+-- what goes to the output was written whole, behind what was on it
+pub record IsReported (disk : Option Disk) (sure_errors : Bool) (line : List (List ℕ)) (before after : Streams) (status : ℕ) : Type 0 where
   pub outcome : Outcome
   pub report : IsReport disk line before.input after.input outcome
-  pub written : Appends before.output after.output (string_bytes outcome.report)
-  pub quiet : after.errors ≡ before.errors
+  pub written : Appends before.output after.output (shown_of outcome)
+  pub beside : IsToldBeside sure_errors before after outcome
   pub ends : status ≡ outcome.status
 
--- a report that was cut, where a write may fail: its front was written, and nothing else, and that is told
+-- what goes to the output was cut, where a write may fail: its front was written, and nothing else, and that is told, behind the report
+-- where what a guest wrote takes its place
 pub record IsCut (disk : Option Disk) (sure_output sure_errors : Bool) (line : List (List ℕ)) (before after : Streams) (status : ℕ)
     : Type 0 where
   pub outcome : Outcome
   pub report : IsReport disk line before.input after.input outcome
-  pub front : WritesCut before.output after.output (string_bytes outcome.report)
+  pub front : WritesCut before.output after.output (shown_of outcome)
   pub unsure : sure_output ≡ false
-  pub told : IsTold sure_errors before after output_line
+  pub told : IsTold sure_errors before after (beside_of outcome ++ output_line)
   pub ends : status ≡ 6
 
 -- there is a failure, which is told, and its status
@@ -156,11 +169,12 @@ pub record IsHelped (line : List (List ℕ)) (before after : Streams) (status : 
   pub ends : status ≡ 0
 
 -- How the program ends on the words of a line, with these files and folders, and streams that were so before and are so after: with the
--- report that the words ask for, and its status; with 6, and the front of that report; with nothing on the output, and 2 to 4 by the
--- reason; or with 0, where the words ask for help or for the version. Of the output and of the errors it is said whether no write fails.
+-- report that the words ask for, and its status, on the output or, where what a guest wrote goes there, with the errors; with 6, and the
+-- front of what goes to the output; with nothing on the output, and 2 to 4 by the reason; or with 0, where the words ask for help or for
+-- the version. Of the output and of the errors it is said whether no write fails.
 abbrev pub HasEnded :
     (disk : Option Disk) → (sure_output sure_errors : Bool) → (line : List (List ℕ)) → (before after : Streams) → (status : ℕ) → Type 0
 HasEnded disk sure_output sure_errors line before after status =
-    IsReported disk line before after status
+    IsReported disk sure_errors line before after status
     ⊎ (IsCut disk sure_output sure_errors line before after status
     ⊎ (IsFailed disk sure_errors line before after status ⊎ IsHelped line before after status))

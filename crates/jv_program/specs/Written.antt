@@ -1,6 +1,20 @@
--- What is written of a text.
-use Rattle.std.specs.Prelude.{◌≡◌, ◌≢◌, ◌++◌, ℕ, List, [], Option}
+-- What is written.
+use Rattle.std.specs.Prelude.{◌≡◌, ◌≢◌, ◌++◌, ℕ, List, [], Option, Some, None, string_bytes, unwrap_or}
 use Rattle.std.specs.Io.KnownBytes.{Appends}
+use Rattle.jv_program_base.specs.Outcome.{raw_bytes}
+use Rattle.jv_program_base.specs.declared.outcome.Outcome.{Outcome}
+
+-- what goes to the output: what a guest wrote, where that goes there in the report's place, and else the report
+abbrev pub shown_of : Outcome → List ℕ
+shown_of outcome = unwrap_or (raw_bytes outcome) (string_bytes outcome.report)
+
+-- what goes with the errors: the report, where what a guest wrote goes to the output in its place
+abbrev pub beside : (raw : Option (List ℕ)) → (report : List ℕ) → List ℕ
+beside None report = []
+beside (Some bytes) report = report
+
+abbrev pub beside_of : Outcome → List ℕ
+beside_of outcome = beside (raw_bytes outcome) (string_bytes outcome.report)
 
 -- the front of a text was written, which may be none of it and is not all, and nothing else
 abbrev pub WritesCut : Option (List ℕ) → Option (List ℕ) → List ℕ → Type 0

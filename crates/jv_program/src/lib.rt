@@ -9,7 +9,7 @@ mod stop;
 mod written;
 
 pub use program::{command, command_watched, tell};
-pub use progress::ProgressLine;
+pub use progress::{Company, ProgressLine};
 pub use sink::{Lost, Sink, Stream};
 pub use stop::{Stop, status_of};
 pub use written::write_report;

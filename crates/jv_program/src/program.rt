@@ -1,22 +1,25 @@
 //! The program: what words ask for is done, and told.
-ghost use Rattle.std.specs.Prelude.{◌≡◌, ℕ, List, Option, IfErr, IfOk, IsOk, IsTrue, OnOk, map, string_bytes};
+ghost use Rattle.std.specs.Prelude.{◌≡◌, ℕ, false, List, Option, IfErr, IfOk, IsOk, IsTrue, OnOk, map, string_bytes};
 ghost use Rattle.std.specs.Io.KnownBytes.{Appends};
 ghost use Rattle.jv_program_base.specs.Disk.{Disk};
 ghost use Rattle.jv_program_base.specs.Failure.{failure_line};
 ghost use Rattle.jv_program_base.specs.declared.failure.Failure.{Failure};
 ghost use Rattle.jv_program_words.specs.Settings.{IsAskedIn};
-ghost use Rattle.jv_program.specs.Command.{AskForProgress, HasEnded, IsBegun, IsReport, settings_of, streams};
+ghost use Rattle.jv_limits.specs.Bytes.{bytes_of};
+ghost use Rattle.jv_program_run.specs.Named.{AreTaken, IsRunAs, IsRunFailure};
+ghost use Rattle.jv_program.specs.Command.{AskForCompany, HasEnded, IsBegun, IsReport, settings_of, streams};
 ghost use Rattle.jv_program.specs.Inside.Stops.{IsCarriedOut, IsEarly};
 ghost use Rattle.jv_program.specs.Status.{IsAsked, output_line};
 ghost use Rattle.jv_program.specs.declared.stop.Stop.TheVariants.{Output, Run};
 
+use crate::progress::Company;
 use crate::sink::{Lost, Sink};
 use crate::stop::{Stop, status_of, stop_of};
-use crate::written::write_report;
-use jv_program_base::{Folders, Outcome};
+use crate::written::{tell_beside, write_report};
+use jv_program_base::{Failure, Folders, Outcome};
 use jv_program_check::check_named;
 use jv_program_explain::explain_named;
-use jv_program_run::{Budget, RunSettings, Unwatched, Watch, run_named};
+use jv_program_run::{Budget, RunSettings, Unwatched, run_named};
 use jv_program_words::{RunOptions, Settings, settings};
 use std::alloc::Global;
 use std::hash::RandomState;
@@ -35,6 +38,8 @@ fn settings_of(options: RunOptions) -> RunSettings
         quantum: options.quantum,
         rounds: options.rounds,
         stdin: options.stdin,
+        raw: options.raw,
+        json: options.json,
     }
 }
 
@@ -50,55 +55,94 @@ fn asked<'a>(alloc: Global, words: &'a [String]) -> Result<Settings<'a>, Stop>
     }
 }
 
-/// Makes the report that words ask for. A watch sees the rounds of turns where they ask for it.
-fn outcome_for<F: Folders, I: Read, P: Watch>(
+/// Runs the guests of folders with these options. Company is told of it as far as the options say.
+fn run_for<F: Folders, I: Read, P: Company>(
+    alloc: Global,
+    state: RandomState,
+    options: RunOptions,
+    named: &[&str],
+    folders: &mut F,
+    input: &mut I,
+    company: &mut P,
+) -> Result<Outcome, Failure>
+    ensures ok { IfOk result (IsRunAs (F.disk folders.old) (settings_of options) (map bytes_of named.now)
+        (I.remaining input.old) (I.remaining input.new)) }
+    ensures err { IfErr result (IsRunFailure (F.disk folders.old) (settings_of options) (map bytes_of named.now)
+        (I.remaining input.old) (I.remaining input.new)) }
+    ensures unread { (AreTaken (settings_of options) (map bytes_of named.now) → ⊥) → folders.new ≡ folders.old }
+    ensures alone { options.progress ≡ false → options.time ≡ false → company.new ≡ company.old }
+{
+    let settings = settings_of(options);
+    if options.time {
+        company.want_time();
+    }
+    if options.progress {
+        let made = run_named(alloc, state, settings, named, folders, input, company);
+        company.end();
+        made
+    } else {
+        let unwatched = &mut Unwatched;
+        run_named(alloc, state, settings, named, folders, input, unwatched)
+    }
+}
+
+/// Makes the report that words ask for. Company is told of a run as far as they say.
+fn outcome_for<F: Folders, I: Read, P: Company>(
     alloc: Global,
     state: RandomState,
     words: &[String],
     folders: &mut F,
     input: &mut I,
-    watch: &mut P,
+    company: &mut P,
 ) -> Result<Outcome, Stop>
     ensures ok { IfOk result (IsReport (F.disk folders.old) (map string_bytes words.now) (I.remaining input.old) (I.remaining input.new)) }
     ensures err { IfErr result (IsEarly (F.disk folders.old) (map string_bytes words.now) (I.remaining input.old) (I.remaining input.new)) }
     ensures unread { (IsBegun (map string_bytes words.now) → ⊥) → folders.new ≡ folders.old }
-    ensures unwatched { (AskForProgress (map string_bytes words.now) → ⊥) → watch.new ≡ watch.old }
+    ensures alone { (AskForCompany (map string_bytes words.now) → ⊥) → company.new ≡ company.old }
 {
     match asked(alloc, words)? {
         Settings::Run(options, named) => {
-            let settings = settings_of(options);
             let named = named.as_slice();
-            if options.progress {
-                let made = run_named(alloc, state, settings, named, folders, input, watch);
-                watch.end();
-                Ok(made?)
-            } else {
-                let unwatched = &mut Unwatched;
-                Ok(run_named(alloc, state, settings, named, folders, input, unwatched)?)
-            }
+            Ok(run_for(alloc, state, options, named, folders, input, company)?)
         }
-        Settings::Check(names) => Ok(check_named(alloc, state, names.as_slice(), folders)?),
-        Settings::Explain(names) => Ok(explain_named(alloc, state, names.as_slice(), folders)?),
+        Settings::Check(json, names) => Ok(check_named(
+            alloc,
+            state,
+            json,
+            names.as_slice(),
+            folders,
+        )?),
+        Settings::Explain(json, names) => Ok(explain_named(
+            alloc,
+            state,
+            json,
+            names.as_slice(),
+            folders,
+        )?),
     }
 }
 
-/// Does what words say, and writes the report.
-fn carry_out<F: Folders, I: Read, O: Sink, P: Watch>(
+/// Does what words say, and writes the report, or what goes in its place, and the report with the errors.
+fn carry_out<F: Folders, I: Read, O: Sink, E: Sink, P: Company>(
     alloc: Global,
     state: RandomState,
     words: &[String],
     folders: &mut F,
     input: &mut I,
     out: &mut O,
-    watch: &mut P,
+    err: &mut E,
+    company: &mut P,
 ) -> Result<Outcome, Stop>
-    ensures carried { IsCarriedOut (F.disk folders.old) O.SURE (map string_bytes words.now)
-        (I.remaining input.old) (I.remaining input.new) (O.contents out.old) (O.contents out.new) result }
+    ensures carried { IsCarriedOut (F.disk folders.old) O.SURE E.SURE (map string_bytes words.now)
+        (streams (I.remaining input.old) (O.contents out.old) (E.contents err.old))
+        (streams (I.remaining input.new) (O.contents out.new) (E.contents err.new)) result }
     ensures unread { (IsBegun (map string_bytes words.now) → ⊥) → folders.new ≡ folders.old }
-    ensures unwatched { (AskForProgress (map string_bytes words.now) → ⊥) → watch.new ≡ watch.old }
+    ensures alone { (AskForCompany (map string_bytes words.now) → ⊥) → company.new ≡ company.old }
 {
-    let made = outcome_for(alloc, state, words, folders, input, watch);
-    write_report(out, made?)
+    let made = outcome_for(alloc, state, words, folders, input, company);
+    let outcome = made?;
+    tell_beside(err, &outcome);
+    write_report(out, outcome)
 }
 
 /// Tells why there is no report, or not the whole of it: where the words ask for help or the version with the output, and else with the
@@ -130,9 +174,9 @@ pub fn tell<O: Sink, E: Sink>(stop: &Stop, out: &mut O, err: &mut E) -> Result<(
 }
 
 /// Does what words say, of which the first is the program's name, and answers the status that the program ends with: runs the guests of
-/// folders, checks class files, or explains the verdicts on them, and writes the report. Names are hashed with the state. What there is in
-/// place of a report is told with the errors, and what words ask for of the program itself with the output; where that can't be written,
-/// the status is the same.
+/// folders, checks class files, or explains the verdicts on them, and writes the report, or what a guest wrote where the words want that as
+/// it is, and the report with the errors. Names are hashed with the state. What there is in place of a report is told with the errors, and
+/// what words ask for of the program itself with the output; where that can't be written, the status is the same.
 pub fn command<F: Folders, I: Read, O: Sink, E: Sink>(
     alloc: Global,
     state: RandomState,
@@ -159,8 +203,8 @@ pub fn command<F: Folders, I: Read, O: Sink, E: Sink>(
     )
 }
 
-/// Does what `command` does, and lets a watch see the rounds of turns where the words ask for it.
-pub fn command_watched<F: Folders, I: Read, O: Sink, E: Sink, P: Watch>(
+/// Does what `command` does, and tells company of a run as far as the words say.
+pub fn command_watched<F: Folders, I: Read, O: Sink, E: Sink, P: Company>(
     alloc: Global,
     state: RandomState,
     words: &[String],
@@ -168,15 +212,15 @@ pub fn command_watched<F: Folders, I: Read, O: Sink, E: Sink, P: Watch>(
     input: &mut I,
     out: &mut O,
     err: &mut E,
-    watch: &mut P,
+    company: &mut P,
 ) -> u8
     ensures ended { HasEnded (F.disk folders.old) O.SURE E.SURE (map string_bytes words.now)
         (streams (I.remaining input.old) (O.contents out.old) (E.contents err.old))
         (streams (I.remaining input.new) (O.contents out.new) (E.contents err.new)) result }
     ensures unread { (IsBegun (map string_bytes words.now) → ⊥) → folders.new ≡ folders.old }
-    ensures unwatched { (AskForProgress (map string_bytes words.now) → ⊥) → watch.new ≡ watch.old }
+    ensures alone { (AskForCompany (map string_bytes words.now) → ⊥) → company.new ≡ company.old }
 {
-    let end = carry_out(alloc, state, words, folders, input, out, watch);
+    let end = carry_out(alloc, state, words, folders, input, out, err, company);
     if let Err(stop) = &end {
         let _ = tell(stop, out, err);
     }

@@ -1,14 +1,24 @@
-//! A line of a terminal that says how far a run is.
+//! What is told of a run beside its report: a line of a terminal that says how far it is, and how long the processor took.
 
-use jv_program_run::{Progress, Watch};
+use jv_program_run::{Progress, Unwatched, Watch};
 use std::io::{IsTerminal, Write};
-use std::time::{Clock, Duration, Instant};
+use std::time::{Clock, CpuClock, Duration, Instant};
 
 /// The seconds between two times that it is told.
 const PAUSE: u64 = 1;
 
-/// A line that is written anew once a second, by a clock, where what it is written to is a terminal. A write that fails, or a clock that
-/// does, changes nothing of the run.
+/// Who is told of a run beside its report.
+pub trait Company: Watch {
+    /// Is told that the words ask how long the processor took.
+    fn want_time(&mut self);
+}
+
+impl Company for Unwatched {
+    fn want_time(&mut self) {}
+}
+
+/// A line that is written anew once a second, by a clock, where what it is written to is a terminal, and at the end, wherever it is written
+/// to, the processor's time. A write that fails, or a clock that does, changes nothing of the run.
 #[derive(Drop)]
 pub struct ProgressLine<'a, C, T> {
     clock: &'a C,
@@ -16,6 +26,7 @@ pub struct ProgressLine<'a, C, T> {
     is_terminal: bool,
     told: Option<Instant>,
     is_shown: bool,
+    wants_time: bool,
 }
 
 impl<'a, C: Clock, T: Write + IsTerminal> ProgressLine<'a, C, T> {
@@ -29,6 +40,20 @@ impl<'a, C: Clock, T: Write + IsTerminal> ProgressLine<'a, C, T> {
             is_terminal,
             told,
             is_shown: false,
+            wants_time: false,
+        }
+    }
+}
+
+impl<C: CpuClock, T: Write> ProgressLine<'_, C, T> {
+    /// Tells how many milliseconds the processor took for the process so far, where the words ask for it.
+    pub fn tell_time(&mut self) {
+        if !self.wants_time {
+            return;
+        }
+        if let Ok(time) = self.clock.process_cpu_time() {
+            let millis = time.as_millis();
+            let _ = write!(self.to, "processor {millis} ms\n");
         }
     }
 }
@@ -57,5 +82,11 @@ impl<C: Clock, T: Write> Watch for ProgressLine<'_, C, T> {
         if self.is_shown {
             let _ = write!(self.to, "\r\x1b[K");
         }
+    }
+}
+
+impl<C: Clock, T: Write> Company for ProgressLine<'_, C, T> {
+    fn want_time(&mut self) {
+        self.wants_time = true;
     }
 }

@@ -1,7 +1,7 @@
-//! The report, as it is written on standard output.
-ghost use Rattle.std.specs.Prelude.{◌≡◌, IfErr, IfOk, IsOk, IsTrue, OnErr, OnOk, string_bytes};
+//! What is written on standard output, and beside it.
+ghost use Rattle.std.specs.Prelude.{◌≡◌, IfErr, IfOk, IsOk, IsTrue, None, OnErr, OnOk};
 ghost use Rattle.std.specs.Io.KnownBytes.{Appends};
-ghost use Rattle.jv_program.specs.Written.{WritesCut};
+ghost use Rattle.jv_program.specs.Written.{WritesCut, beside_of, shown_of};
 ghost use Rattle.jv_program.specs.declared.stop.Stop.TheVariants.{Output};
 
 use crate::sink::{Lost, Sink};
@@ -25,19 +25,39 @@ fn write_bytes<O: Sink>(to: &mut O, bytes: &[u8]) -> Result<(), Lost>
     Ok(())
 }
 
-/// Writes the report, and gives the outcome back.
+/// What goes to the output: what a guest wrote, where that goes there in the report's place, and else the report.
+fn shown_of(outcome: &Outcome) -> &[u8]
+    ensures { result.now ≡ shown_of outcome.now }
+{
+    match &outcome.raw {
+        Some(bytes) => bytes.as_slice(),
+        None => outcome.report.as_bytes(),
+    }
+}
+
+/// Tells the report with the errors, where what a guest wrote goes to the output in its place.
+pub(crate) fn tell_beside<E: Sink>(err: &mut E, outcome: &Outcome)
+    ensures told { IsTrue E.SURE → Appends (E.contents err.old) (E.contents err.new) (beside_of outcome.now) }
+    ensures quiet { outcome.now.raw ≡ None → err.new ≡ err.old }
+{
+    if outcome.raw.is_some() {
+        let _ = err.tell(outcome.report.as_str());
+    }
+}
+
+/// Writes what goes to the output: the report, or what a guest wrote in its place. Gives the outcome back.
 ///
 /// # Errors
 ///
-/// `Output` where a write fails; what was written is then a front of the report, and not all of it.
+/// `Output` where a write fails; what was written is then a front of it, and not all.
 pub fn write_report<O: Sink>(to: &mut O, outcome: Outcome) -> Result<Outcome, Stop>
-    ensures whole { OnOk result (Appends (O.contents to.old) (O.contents to.new) (string_bytes outcome.report)) }
+    ensures whole { OnOk result (Appends (O.contents to.old) (O.contents to.new) (shown_of outcome)) }
     ensures same { IfOk result (λ written. written ≡ outcome) }
-    ensures cut { OnErr result (WritesCut (O.contents to.old) (O.contents to.new) (string_bytes outcome.report)) }
+    ensures cut { OnErr result (WritesCut (O.contents to.old) (O.contents to.new) (shown_of outcome)) }
     ensures lost { IfErr result (λ stop. stop ≡ Output) }
     ensures sure { IsTrue O.SURE → IsOk result }
 {
-    match write_bytes(to, outcome.report.as_bytes()) {
+    match write_bytes(to, shown_of(&outcome)) {
         Ok(()) => Ok(outcome),
         Err(Lost) => Err(Stop::Output),
     }

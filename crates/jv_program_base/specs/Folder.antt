@@ -1,5 +1,5 @@
 -- What a folder holds of a guest, as the program has read it.
-use Rattle.std.specs.Prelude.{◌≡◌, ℕ, ◌≤◌, true, false, List, [], ◌∷◌, ◌++◌, Option, All, map, filter, vec_len, codes, IsPermutation, IsSorted}
+use Rattle.std.specs.Prelude.{◌≡◌, ◌≢◌, ℕ, ◌≤◌, true, false, List, [], ◌∷◌, ◌++◌, Option, All, map, filter, length, vec_len, codes, IsPermutation, IsSorted}
 use Rattle.std.specs.Cmp.Lexicographic.{slice_cmp}
 use Rattle.std.specs.Ordering.{nat_cmp}
 use Rattle.jv_program_base.specs.declared.folder.NamedFile.{NamedFile}
@@ -19,10 +19,9 @@ file_bytes file = file.bytes.items
 abbrev pub path_in : (word file : List ℕ) → List ℕ
 path_in word file = word ++ 47 ∷ file
 
--- the path at which a folder is opened: its word, which `/` ends, but where it is empty
+-- the path at which a folder is opened: its word and `/`
 abbrev pub folder_path : (word : List ℕ) → List ℕ
-folder_path [] = []
-folder_path (first ∷ rest) = (first ∷ rest) ++ 47 ∷ []
+folder_path word = word ++ 47 ∷ []
 
 -- ---- the folder of a listing
 
@@ -52,9 +51,11 @@ pub record IsFolderOf (disk : Option Disk) (word : List ℕ) (names : List (List
       is_listed_name (codes "input") names ≡ true → IsReadAt disk (path_in word (codes "input")) 16777216 folder.input.items
   pub no_input : is_listed_name (codes "input") names ≡ false → folder.input.items ≡ []
 
--- the folder of a word, with the listing that stands there, of which 4,294,967,296 bytes are read at most
+-- the folder of a word, which isn't empty, with the listing that stands there, of at most 4,294,967,296 bytes
 pub record IsFolderRead (disk : Option Disk) (word : List ℕ) (folder : Folder) : Type 0 where
   pub word_is : folder.word.now ≡ word
+  pub named : word ≢ []
   pub listing : List ℕ
+  pub most : length listing ≤ 4294967296
   pub listed : IsListedAt disk (folder_path word) 4294967296 listing
   pub files : IsFolderOf disk word (names_listed listing) folder

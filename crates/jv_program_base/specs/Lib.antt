@@ -4,5 +4,6 @@ pub mod Failure
 pub mod Folder
 pub mod MainName
 pub mod Names
+pub mod Outcome
 pub mod Verdict
 pub mod Inside

@@ -23,7 +23,7 @@ const CLASS_FILE_LIMIT: usize = 4_194_304;
 /// The most bytes of the file `input`.
 const INPUT_LIMIT: usize = 16_777_216;
 
-/// More bytes than any listing of a folder has.
+/// The most bytes of a folder's listing.
 const LISTING_LIMIT: usize = 0x1_0000_0000;
 
 /// A class file.
@@ -116,20 +116,23 @@ fn folder_path(alloc: Global, folder: &str) -> Result<String, AllocError>
     ensures { IfOk result (λ path. string_bytes path ≡ folder_path folder.now) }
 {
     let mut path = String::from_str(alloc, folder)?;
-    if !folder.is_empty() {
-        path.push('/')?;
-    }
+    path.push('/')?;
     Ok(path)
 }
 
-/// The listing of a folder: its names, each ended by a NUL.
+/// The listing of a folder: its names, each ended by a NUL. One that is longer than the limit can't be read.
 fn listing_at<F: Folders>(alloc: Global, folders: &mut F, folder: &str) -> io::Result<Vec<u8>>
+    ensures most { IfOk result (λ listing. vec_len listing ≤ 4294967296) }
     ensures listed { IfOk result (λ listing. IsListedAt (F.disk folders.old) (folder_path folder.now) 4294967296 listing.items) }
     ensures disk { F.disk folders.new ≡ F.disk folders.old }
 {
     let path = folder_path(alloc, folder)?;
-    let mut listing = folders.open_folder(path.as_str())?;
-    read_past_limit(alloc, &mut listing, LISTING_LIMIT)
+    let mut file = folders.open_folder(path.as_str())?;
+    let listing = read_past_limit(alloc, &mut file, LISTING_LIMIT)?;
+    if listing.len() > LISTING_LIMIT {
+        return Err(Error::from(ErrorKind::FileTooLarge));
+    }
+    Ok(listing)
 }
 
 /// The listing of a folder, or the failure that names the folder.
@@ -138,6 +141,7 @@ fn read_listing<F: Folders>(
     folders: &mut F,
     folder: &str,
 ) -> Result<Vec<u8>, Failure>
+    ensures most { IfOk result (λ listing. vec_len listing ≤ 4294967296) }
     ensures listed { IfOk result (λ listing. IsListedAt (F.disk folders.old) (folder_path folder.now) 4294967296 listing.items) }
     ensures err { IfErr result (IsUnread folder.now) }
     ensures disk { F.disk folders.new ≡ F.disk folders.old }
@@ -290,7 +294,7 @@ fn read_files<'a, F: Folders>(
 }
 
 /// Reads the folder of a word: its listing, its class files in byte order of their names, its file `main`, and its file
-/// `input` where there is one. What fails first is the failure.
+/// `input` where there is one. What fails first is the failure; the empty word is that of no folder.
 pub fn read_folder<'a, F: Folders>(
     alloc: Global,
     folders: &mut F,
@@ -300,6 +304,9 @@ pub fn read_folder<'a, F: Folders>(
     ensures err { IfErr result (IsNotRead word.now) }
     ensures disk { F.disk folders.new ≡ F.disk folders.old }
 {
+    if word.is_empty() {
+        return Err(Failure::Unreadable(Vec::new(alloc)));
+    }
     let listing = read_listing(alloc, folders, word)?;
     let names = names_in(alloc, listing.as_slice())?;
     read_files(alloc, folders, word, names.as_slice())

@@ -22,7 +22,7 @@ pub trait Folders {
         ensures disk { disk self.new ≡ disk self.old }
         ensures found { IfOk result (λ file. OpensFile (disk self.old) path.now (Self.File.remaining file)) };
 
-    /// Opens the folder at a path, which is empty or ends in a slash.
+    /// Opens the folder at a path, which ends in a slash.
     fn open_folder(&mut self, path: &str) -> io::Result<Self::Listing>
         ensures disk { disk self.new ≡ disk self.old }
         ensures found { IfOk result (λ listing. OpensFolder (disk self.old) path.now (Self.Listing.remaining listing)) };

@@ -5,6 +5,8 @@
 pub struct Outcome {
     /// The report's text.
     pub report: String,
+    /// What a guest wrote, where that goes to standard output in the report's place.
+    pub raw: Option<Vec<u8>>,
     /// The status.
     pub status: u8,
 }

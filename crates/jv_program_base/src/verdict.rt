@@ -15,7 +15,7 @@ struct ShownFault(VerifyFault);
 pub struct ShownVerdict(pub Verdict);
 
 /// The name of what is wrong with a file before its methods are looked at.
-fn reason_name(reason: LoadVerdict) -> &'static str
+pub fn reason_name(reason: LoadVerdict) -> &'static str
     ensures { result.now ≡ reason_name reason }
 {
     match reason {
@@ -33,7 +33,7 @@ fn reason_name(reason: LoadVerdict) -> &'static str
 }
 
 /// The place of a rule in the order in which the rules are asked.
-fn rule_number(rule: VerifyRule) -> u8
+pub fn rule_number(rule: VerifyRule) -> u8
     ensures { result ≡ rule_number rule }
 {
     match rule {

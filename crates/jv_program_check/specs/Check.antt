@@ -1,5 +1,5 @@
 -- What the program says of the files of a guest (JVMS 4.10, 5.3.5).
-use Rattle.std.specs.Prelude.{◌≡◌, ℕ, ⊤, List, None, Some, string_bytes}
+use Rattle.std.specs.Prelude.{◌≡◌, ℕ, ⊤, Bool, List, None, Some, string_bytes}
 use Rattle.jv_meaning_world.specs.FileContent.{FileContent, AreContents}
 use Rattle.jv_meaning_typing.specs.declared.verdict.Verdict.{Verdict}
 use Rattle.jv_limits.specs.FileLimits.{first_file_refusal}
@@ -7,7 +7,7 @@ use Rattle.jv_verify.specs.Files.{AreVerdicts}
 use Rattle.jv_program_base.specs.declared.failure.Failure.{Failure}
 use Rattle.jv_program_base.specs.declared.failure.Failure.TheVariants.{Refused, HostMemory, OutOfMemory}
 use Rattle.jv_program_base.specs.declared.outcome.Outcome.{Outcome}
-use Rattle.jv_program_check.specs.Text.{check_text, check_status}
+use Rattle.jv_program_check.specs.Text.{check_report, check_status}
 
 -- the verdicts on the files of one guest, in their order
 pub record AreVerdictsOf (files : List (List ℕ)) (verdicts : List Verdict) : Type 0 where
@@ -15,12 +15,14 @@ pub record AreVerdictsOf (files : List (List ℕ)) (verdicts : List Verdict) : T
   pub read : AreContents files contents
   pub found : AreVerdicts contents verdicts
 
--- The files are within the limits; the text has a line for each file, and the status goes with the verdicts.
-pub record IsChecked (names files : List (List ℕ)) (outcome : Outcome) : Type 0 where
+-- The files are within the limits; the text has a line for each file, in JSON or not, nothing takes its place, and the status goes with
+-- the verdicts.
+pub record IsChecked (json : Bool) (names files : List (List ℕ)) (outcome : Outcome) : Type 0 where
   pub allowed : first_file_refusal files ≡ None
   pub verdicts : List Verdict
   pub right : AreVerdictsOf files verdicts
-  pub report : string_bytes outcome.report ≡ check_text names verdicts
+  pub report : string_bytes outcome.report ≡ check_report json names verdicts
+  pub alone : outcome.raw ≡ None
   pub status : outcome.status ≡ check_status verdicts
 
 -- ---- files that are not checked

@@ -1,5 +1,5 @@
 -- What is said of files that are read by their names.
-use Rattle.std.specs.Prelude.{◌≡◌, ◌⊎◌, ℕ, ⊤, List, Option, Some, length, slice_get}
+use Rattle.std.specs.Prelude.{◌≡◌, ◌⊎◌, ℕ, ⊤, Bool, List, Option, Some, length, slice_get}
 use Rattle.std.specs.List.{Contains}
 use Rattle.jv_program_check.specs.Check.{IsChecked, IsCheckFailure}
 use Rattle.jv_program_base.specs.Disk.{Disk, IsReadAt}
@@ -15,10 +15,10 @@ pub record AreFilesAt (disk : Option Disk) (names files : List (List ℕ)) : Typ
       → IsReadAt disk name 4194304 bytes
 
 -- the files of the names were read, and they are checked as the files of one guest
-pub record IsCheckedAs (disk : Option Disk) (names : List (List ℕ)) (outcome : Outcome) : Type 0 where
+pub record IsCheckedAs (disk : Option Disk) (json : Bool) (names : List (List ℕ)) (outcome : Outcome) : Type 0 where
   pub files : List (List ℕ)
   pub read : AreFilesAt disk names files
-  pub checked : IsChecked names files outcome
+  pub checked : IsChecked json names files outcome
 
 -- ---- files that are not checked
 

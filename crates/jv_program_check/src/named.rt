@@ -54,20 +54,21 @@ pub fn bytes_of_files<'a>(alloc: Global, files: &'a [Vec<u8>]) -> Result<Vec<&'a
 fn check_read(
     alloc: Global,
     state: RandomState,
+    json: bool,
     names: &[&str],
     files: &[Vec<u8>],
 ) -> Result<Outcome, Failure>
     requires { length names.now ≡ length files.now }
     ensures ok { IfOk result (λ outcome.
-        IsChecked (map bytes_of names.now) (map (λ file. file.items) files.now) outcome) }
+        IsChecked json (map bytes_of names.now) (map (λ file. file.items) files.now) outcome) }
     ensures err { IfErr result (IsReadFailure (map (λ file. file.items) files.now)) }
 {
     let names = bytes_of_texts(alloc, names)?;
     let files = bytes_of_files(alloc, files)?;
-    check_files(alloc, state, names.as_slice(), files.as_slice())
+    check_files(alloc, state, json, names.as_slice(), files.as_slice())
 }
 
-/// Reads the files of these names, one for each name, and checks them as those of one guest.
+/// Reads the files of these names, one for each name, and checks them as those of one guest, with a report in JSON or not.
 ///
 /// # Errors
 ///
@@ -76,12 +77,13 @@ fn check_read(
 pub fn check_named<F: Folders>(
     alloc: Global,
     state: RandomState,
+    json: bool,
     names: &[&str],
     folders: &mut F,
 ) -> Result<Outcome, Failure>
-    ensures ok { IfOk result (IsCheckedAs (F.disk folders.old) (map bytes_of names.now)) }
+    ensures ok { IfOk result (IsCheckedAs (F.disk folders.old) json (map bytes_of names.now)) }
     ensures err { IfErr result (IsNamedFailure (F.disk folders.old) (map bytes_of names.now)) }
 {
     let files = read_classes(alloc, folders, names)?;
-    check_read(alloc, state, names, files.as_slice())
+    check_read(alloc, state, json, names, files.as_slice())
 }

@@ -1,5 +1,5 @@
 -- What the program says of the files of a guest and of their verdicts (JVMS 4.10, 5.3.5).
-use Rattle.std.specs.Prelude.{◌≡◌, ℕ, List, None, Some, length, slice_get, string_bytes}
+use Rattle.std.specs.Prelude.{◌≡◌, ℕ, Bool, List, None, Some, length, slice_get, string_bytes}
 use Rattle.jv_meaning_world.specs.FileContent.{FileContent, AreContents}
 use Rattle.jv_meaning_typing.specs.declared.verdict.Verdict.{Verdict}
 use Rattle.jv_limits.specs.FileLimits.{first_file_refusal}
@@ -7,7 +7,7 @@ use Rattle.jv_verify.specs.Files.{AreVerdicts}
 use Rattle.jv_program_base.specs.declared.outcome.Outcome.{Outcome}
 use Rattle.jv_program_check.specs.Text.{check_status}
 use Rattle.jv_explain.specs.Explained.{IsExplanation}
-use Rattle.jv_program_explain.specs.Text.{explain_text}
+use Rattle.jv_program_explain.specs.Text.{explain_report}
 
 -- of each file what is said of its verdict
 pub record AreExplained (contents : List FileContent) (verdicts : List Verdict) (said : List (List ℕ)) : Type 0 where
@@ -15,9 +15,9 @@ pub record AreExplained (contents : List FileContent) (verdicts : List Verdict) 
   pub each : (place : ℕ) (content : FileContent) (verdict : Verdict) (text : List ℕ) → slice_get contents place ≡ Some content
       → slice_get verdicts place ≡ Some verdict → slice_get said place ≡ Some text → IsExplanation content verdict text
 
--- The files are within the limits; the text has for each file the line of `check` and what is said of its verdict, and the status is
--- that of `check`.
-pub record IsExplained (names files : List (List ℕ)) (outcome : Outcome) : Type 0 where
+-- The files are within the limits; the text has for each file the line of `check` and what is said of its verdict, in JSON or not, nothing
+-- takes its place, and the status is that of `check`.
+pub record IsExplained (json : Bool) (names files : List (List ℕ)) (outcome : Outcome) : Type 0 where
   pub allowed : first_file_refusal files ≡ None
   pub contents : List FileContent
   pub read : AreContents files contents
@@ -25,5 +25,6 @@ pub record IsExplained (names files : List (List ℕ)) (outcome : Outcome) : Typ
   pub right : AreVerdicts contents verdicts
   pub said : List (List ℕ)
   pub explained : AreExplained contents verdicts said
-  pub report : string_bytes outcome.report ≡ explain_text names verdicts said
+  pub report : string_bytes outcome.report ≡ explain_report json names verdicts said
+  pub alone : outcome.raw ≡ None
   pub status : outcome.status ≡ check_status verdicts

@@ -1,65 +1,69 @@
 //! The verdicts on files, and what is said of them.
 ghost use Rattle.std.specs.Prelude.{◌≡◌, IfErr, IfOk, None, length, map, string_bytes};
-ghost use Rattle.std.specs.List.{list_all};
 ghost use Rattle.jv_limits.specs.Bytes.{bytes_of};
 ghost use Rattle.jv_limits.specs.FileLimits.{first_file_refusal};
 ghost use Rattle.jv_program_check.specs.Check.{IsCheckFailure, IsHostFailure};
-ghost use Rattle.jv_program_check.specs.Text.{check_status, is_accepted};
+ghost use Rattle.jv_program_check.specs.Text.{check_status};
 ghost use Rattle.jv_program_explain.specs.Explain.{IsExplained};
 ghost use Rattle.jv_program_explain.specs.Inside.Below.{AreSaid};
-ghost use Rattle.jv_program_explain.specs.Text.{explain_text};
+ghost use Rattle.jv_program_explain.specs.Text.{explain_report};
 
-use crate::items::{bytes_at, verdict_at};
 use crate::report::Parts;
 use jv_explain::explain_file;
+use jv_json::{explained_values, json_lines};
 use jv_limits::first_file_refusal;
 use jv_loader::system_files;
 use jv_meaning_typing::Verdict;
-use jv_program_base::{Failure, Outcome};
+use jv_program_base::{Failure, Outcome, bytes_at, verdict_at};
+use jv_program_check::status_of;
 use jv_verify::verify_files;
 use std::alloc::{AllocError, Global};
 use std::hash::RandomState;
 
-/// Whether a file is accepted.
-fn is_accepted(verdict: Verdict) -> bool
-    ensures { result ≡ is_accepted verdict }
+/// The report on files of these names with these verdicts and what is said of them, in JSON or not.
+fn report_of(
+    alloc: Global,
+    json: bool,
+    names: &[&[u8]],
+    verdicts: &[Verdict],
+    said: &[String],
+) -> Result<String, AllocError>
+    ensures { IfOk result (λ report.
+        string_bytes report ≡ explain_report json (map bytes_of names.now) verdicts.now (map string_bytes said.now)) }
 {
-    matches!(verdict, Verdict::Accepted)
-}
-
-/// Whether each file is accepted.
-fn are_accepted(verdicts: &[Verdict]) -> bool
-    ensures { result ≡ list_all is_accepted verdicts.now }
-{
-    verdicts.iter().all(|verdict| is_accepted(*verdict))
-}
-
-/// The status that goes with verdicts.
-fn status_of(verdicts: &[Verdict]) -> u8
-    ensures { result ≡ check_status verdicts.now }
-{
-    if are_accepted(verdicts) { 0 } else { 1 }
+    if json {
+        let values = explained_values(alloc, names, verdicts, said)?;
+        json_lines(alloc, values.as_slice())
+    } else {
+        let parts = Parts {
+            names,
+            verdicts,
+            said,
+        };
+        parts.to_string(alloc)
+    }
 }
 
 /// What is said of files of these names with these verdicts.
 fn outcome_of(
     alloc: Global,
+    json: bool,
     names: &[&[u8]],
     verdicts: &[Verdict],
     said: &[String],
 ) -> Result<Outcome, AllocError>
     ensures report { IfOk result (λ outcome.
-        string_bytes outcome.report ≡ explain_text (map bytes_of names.now) verdicts.now (map string_bytes said.now)) }
+        string_bytes outcome.report ≡ explain_report json (map bytes_of names.now) verdicts.now (map string_bytes said.now)) }
+    ensures raw { IfOk result (λ outcome. outcome.raw ≡ None) }
     ensures status { IfOk result (λ outcome. outcome.status ≡ check_status verdicts.now) }
 {
-    let report = Parts {
-        names,
-        verdicts,
-        said,
-    }
-    .to_string(alloc)?;
+    let report = report_of(alloc, json, names, verdicts, said)?;
     let status = status_of(verdicts);
-    Ok(Outcome { report, status })
+    Ok(Outcome {
+        report,
+        raw: None,
+        status,
+    })
 }
 
 /// What is said of files with these verdicts.
@@ -82,11 +86,12 @@ fn said_of(alloc: Global, files: &[&[u8]], verdicts: &[Verdict]) -> Result<Vec<S
 fn explained(
     alloc: Global,
     state: RandomState,
+    json: bool,
     names: &[&[u8]],
     files: &[&[u8]],
 ) -> Result<Outcome, Failure>
     requires { first_file_refusal (map bytes_of files.now) ≡ None }
-    ensures ok { IfOk result (IsExplained (map bytes_of names.now) (map bytes_of files.now)) }
+    ensures ok { IfOk result (IsExplained json (map bytes_of names.now) (map bytes_of files.now)) }
     ensures err { IfErr result (IsHostFailure (map bytes_of files.now)) }
 {
     let Ok(system) = system_files(alloc) else {
@@ -97,11 +102,11 @@ fn explained(
     };
     let verdicts = verified.verdicts();
     let said = said_of(alloc, files, verdicts)?;
-    Ok(outcome_of(alloc, names, verdicts, said.as_slice())?)
+    Ok(outcome_of(alloc, json, names, verdicts, said.as_slice())?)
 }
 
 /// Takes files of these names, as many as there are files, as those of one guest, runs nothing, and says of each what its
-/// verdict is, and of a method that breaks a rule where and which.
+/// verdict is, and of a method that breaks a rule where and which, in JSON or not.
 ///
 /// # Errors
 ///
@@ -111,16 +116,17 @@ fn explained(
 pub fn explain_files(
     alloc: Global,
     state: RandomState,
+    json: bool,
     names: &[&[u8]],
     files: &[&[u8]],
 ) -> Result<Outcome, Failure>
     requires { length names.now ≡ length files.now }
     ensures ok { IfOk result (λ outcome.
-        IsExplained (map bytes_of names.now) (map bytes_of files.now) outcome) }
+        IsExplained json (map bytes_of names.now) (map bytes_of files.now) outcome) }
     ensures err { IfErr result (λ failure. IsCheckFailure (map bytes_of files.now) failure) }
 {
     if let Some(fault) = first_file_refusal(files) {
         return Err(Failure::Refused(fault));
     }
-    explained(alloc, state, names, files)
+    explained(alloc, state, json, names, files)
 }

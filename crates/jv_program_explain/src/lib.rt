@@ -3,7 +3,6 @@
 #![tactic(auto)]
 
 mod explaining;
-mod items;
 mod named;
 mod report;
 

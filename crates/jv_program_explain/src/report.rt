@@ -4,9 +4,8 @@ ghost use Rattle.jv_limits.specs.Bytes.{bytes_of};
 ghost use Rattle.jv_program_check.specs.Text.{check_line};
 ghost use Rattle.jv_program_explain.specs.Text.{explain_text};
 
-use crate::items::{bytes_at, text_at, verdict_at};
 use jv_meaning_typing::Verdict;
-use jv_program_base::{Escaped, ShownVerdict};
+use jv_program_base::{Escaped, ShownVerdict, bytes_at, text_at, verdict_at};
 use std::fmt;
 
 /// What is said of a file: its name and its verdict, and more.

@@ -17,8 +17,10 @@ use Rattle.jv_program_run.specs.Feeding.{feeds_to}
 use Rattle.jv_program_run.specs.Guests.{NamedGuest}
 use Rattle.jv_program_run.specs.declared.brought.Brought.{Brought}
 use Rattle.jv_program_base.specs.declared.outcome.Outcome.{Outcome}
+use Rattle.jv_program_base.specs.Outcome.{raw_bytes}
 use Rattle.jv_program_run.specs.Outcome.{AreAllowed, IsRunAlone, IsRunOutcome, IsToldOf, WereNeeded}
-use Rattle.jv_program_run.specs.Report.{Told, is_running, report_text, run_status}
+use Rattle.jv_program_run.specs.Json.{run_report}
+use Rattle.jv_program_run.specs.Report.{Told, is_running, raw_output, run_status}
 use Rattle.jv_program_run.specs.Inside.Brought.{named_guest_of}
 use Rattle.jv_program_run.specs.Inside.Play.{AreReportsOn, HasRun, IsReportOn, at_start}
 use Rattle.jv_program_run.specs.Inside.Turns.{HasPlayed, SomeWent}
@@ -127,12 +129,12 @@ module _ (one : ShowsOneThing) where
   -- what is said of the guests of such a host
   pub said : {E : Type 0} (s : RunSettings) (brought : List Brought) (host : List Admission) (all : List Told)
       → AreAllowed (budget_of s.budget) (map named_guest_of brought) (length brought) → AreReportsOn (map named_guest_of brought) host (length brought) all
-      → {lent : List Told} → lent ≡ all → (result : Result Outcome E) → IfOk result (λ outcome. string_bytes outcome.report ≡ report_text lent)
-      → IfOk result (λ outcome. outcome.status ≡ run_status lent)
+      → {lent : List Told} → lent ≡ all → (result : Result Outcome E) → IfOk result (λ outcome. string_bytes outcome.report ≡ run_report s.json lent)
+      → IfOk result (λ outcome. raw_bytes outcome ≡ raw_output s.raw lent) → IfOk result (λ outcome. outcome.status ≡ run_status lent)
       → IfOk result (λ outcome. (before after : Option (List ℕ)) → HasRun s (map named_guest_of brought) before after host
       → IsRunOutcome s (map named_guest_of brought) before after outcome)
-  said s brought host all allowed reports same (Err e) report status = tt
-  said s brought host all allowed reports same (Ok outcome) report status = λ before after ran. record {
+  said s brought host all allowed reports same (Err e) report raw status = tt
+  said s brought host all allowed reports same (Ok outcome) report raw status = λ before after ran. record {
     allowed =
         subst (λ (k : ℕ). AreAllowed (budget_of s.budget) (map named_guest_of brought) k) (sym (length-map brought named_guest_of)) allowed;
     rounds = ran.rounds;
@@ -147,6 +149,7 @@ module _ (one : ShowsOneThing) where
         (none_told all (λ place t found. is_over host place t (ran.full early) (reports.each place t found).shown));
     needed = λ some.
         were_needed s.quantum ran.rounds (map named_guest_of brought) host (length brought) all reports (all_there s brought before after host ran) (ran.needed some);
-    report = subst (λ (ts : List Told). string_bytes outcome.report ≡ report_text ts) same report;
+    report = subst (λ (ts : List Told). string_bytes outcome.report ≡ run_report s.json ts) same report;
+    raw = subst (λ (ts : List Told). raw_bytes outcome ≡ raw_output s.raw ts) same raw;
     status = subst (λ (ts : List Told). outcome.status ≡ run_status ts) same status;
   }

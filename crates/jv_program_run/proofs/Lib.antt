@@ -5,6 +5,7 @@ pub mod FedRounds
 pub mod Lines
 pub mod Needed
 pub mod NotRun
+pub mod Plain
 pub mod Played
 pub mod Read
 pub mod Reports

@@ -1,12 +1,22 @@
 -- Folders that are read one behind the other.
-use Rattle.std.proofs.Common.{◌≡◌, ℕ, ◌+◌, List, [], ◌∷◌, ◌++◌, length, take, Bor, Option, Some, sym, ap, subst, ◌∙◌, inl, inr, arith}
-use Rattle.std.specs.Prelude.{map, slice_get}
+use Rattle.std.proofs.Common.{◌≡◌, ℕ, ◌+◌, Bool, true, false, List, [], ◌∷◌, ◌++◌, length, take, Bor, Option, Some, refl, sym, ap, subst, ◌∙◌, inl, inr, arith}
+use Rattle.std.specs.Prelude.{◌||◌, map, slice_get}
 use Rattle.jv_program_base.specs.declared.folder.Folder.{Folder}
 use Rattle.jv_limits.specs.Bytes.{bytes_of}
 use Rattle.jv_program_base.specs.Disk.{Disk}
 use Rattle.jv_program_base.specs.Folder.{IsFolderRead}
-use Rattle.jv_program_run.specs.Named.{AreFoldersOf}
+use Rattle.jv_program_run.specs.declared.settings.RunSettings.{RunSettings}
+use Rattle.jv_program_run.specs.Feeding.{is_no_guest}
+use Rattle.jv_program_run.specs.Named.{AreFoldersOf, lacks_guest}
 use Rattle.jv_program_base.proofs.Places.{length-more, map-take-more, pushed}
+
+-- each guest that the settings name is one of so many
+halves : (a b : Bool) → (a || b) ≡ false → (a ≡ false) × (b ≡ false)
+halves false b e = (refl, e)
+halves true b e = absurd cc
+
+pub none_lacks : (s : RunSettings) (count : ℕ) → lacks_guest s count ≡ false → (is_no_guest s.stdin count ≡ false) × (is_no_guest s.raw count ≡ false)
+none_lacks s count there = halves (is_no_guest s.stdin count) (is_no_guest s.raw count) there
 
 folders-more : (disk : Option Disk) (words : List (List ℕ)) (folders : List Folder) (word : List ℕ) (folder : Folder) → AreFoldersOf disk words folders → IsFolderRead disk word folder
     → AreFoldersOf disk (words ++ word ∷ []) (folders ++ folder ∷ [])

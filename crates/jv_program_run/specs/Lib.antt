@@ -1,5 +1,6 @@
 pub mod Feeding
 pub mod Guests
+pub mod Json
 pub mod Inside
 pub mod Named
 pub mod Outcome

@@ -10,10 +10,12 @@ use Rattle.jv_host.specs.Limits.{first_refusal}
 use Rattle.jv_program_base.specs.declared.failure.Failure.{Failure}
 use Rattle.jv_program_base.specs.declared.failure.Failure.TheVariants.{Unreadable, StandardInput, Refused, FeedTooLong, TooManyFolders, NoGuest, HostMemory, OutOfMemory}
 use Rattle.jv_program_base.specs.declared.outcome.Outcome.{Outcome}
+use Rattle.jv_program_base.specs.Outcome.{raw_bytes}
 use Rattle.jv_program_run.specs.declared.settings.RunSettings.{RunSettings}
 use Rattle.jv_program_run.specs.Feeding.{AreFeedsFrom, CameInTime, IsRunningAlone, IsTooLong, bytes_of_feeds, feeds_to}
 use Rattle.jv_program_run.specs.Guests.{NamedGuest}
-use Rattle.jv_program_run.specs.Report.{Told, report_text, run_status}
+use Rattle.jv_program_run.specs.Json.{run_report}
+use Rattle.jv_program_run.specs.Report.{Told, raw_output, run_status}
 
 -- each of the first guests is within the limits of a host that holds those before it
 abbrev pub AreAllowed : Budget → List NamedGuest → ℕ → Type 0
@@ -48,8 +50,8 @@ pub record IsToldOf (s : RunSettings) (feeds : List Feed) (rounds place : ℕ) (
   pub seen : IsRunAlone named.guest (budget_of s.budget) (feeds_to s.stdin feeds place) s.quantum rounds told.seen
 
 -- Guests within the limits had rounds of turns: all of them, or as many as there were until none ran, and no more. Of input with these
--- bytes before and after, what was read was fed to the one guest that is fed. The report tells so of each guest, and the status goes with
--- what is told.
+-- bytes before and after, what was read was fed to the one guest that is fed. The report tells so of each guest, in JSON or not; in its
+-- place goes the output of the guest that is wanted as it is, where one is; and the status goes with what is told.
 pub record IsRunOutcome (s : RunSettings) (guests : List NamedGuest) (before after : Option (List ℕ)) (outcome : Outcome) : Type 0 where
   pub allowed : AreAllowed (budget_of s.budget) guests (length guests)
   pub rounds : ℕ
@@ -63,7 +65,8 @@ pub record IsRunOutcome (s : RunSettings) (guests : List NamedGuest) (before aft
       → IsToldOf s feeds rounds place named t
   pub full : rounds < s.rounds → run_status told ≡ 0
   pub needed : 1 ≤ s.quantum → WereNeeded s.quantum rounds told
-  pub report : string_bytes outcome.report ≡ report_text told
+  pub report : string_bytes outcome.report ≡ run_report s.json told
+  pub raw : raw_bytes outcome ≡ raw_output s.raw told
   pub status : outcome.status ≡ run_status told
 
 -- ---- guests of which there is no report

@@ -1,5 +1,5 @@
 -- The report on guests, as text.
-use Rattle.std.specs.Prelude.{ℕ, Bool, true, false, List, [], ◌∷◌, ◌++◌, length, codes, ◌==◌, Option, Some, None, if◌then◌else◌}
+use Rattle.std.specs.Prelude.{ℕ, ◌-◌, Bool, true, false, List, [], ◌∷◌, ◌++◌, length, slice_get, codes, ◌==◌, Option, Some, None, option_map, if◌then◌else◌}
 use Rattle.std.specs.List.{flat_map, list_any}
 use Rattle.std.specs.Fmt.{decimal}
 use Rattle.jv_meaning_typing.specs.declared.verdict.Verdict.{Verdict}
@@ -62,6 +62,13 @@ told_text told =
 -- the report: the lines on each guest
 abbrev pub report_text : List Told → List ℕ
 report_text told = flat_map told_text told
+
+-- ---- what a guest wrote, as it is
+
+-- the output of the guest with a number, where one's is wanted
+abbrev pub raw_output : Option ℕ → List Told → Option (List ℕ)
+raw_output None told = None
+raw_output (Some number) told = option_map (λ t. t.seen.output) (slice_get told (number - 1))
 
 -- ---- the status after the report
 

@@ -3,6 +3,7 @@
 
 mod brought;
 mod feeding;
+mod json;
 mod named;
 mod play;
 mod report;

@@ -4,7 +4,7 @@ ghost use Rattle.jv_limits.specs.Bytes.{bytes_of};
 ghost use Rattle.jv_program_base.specs.Failure.{IsOneNotRead};
 ghost use Rattle.jv_program_run.specs.Feeding.{is_no_guest};
 ghost use Rattle.jv_program_run.specs.Guests.{named_guest};
-ghost use Rattle.jv_program_run.specs.Named.{AreFoldersOf, AreTaken, IsRunAs, IsRunFailure};
+ghost use Rattle.jv_program_run.specs.Named.{AreFoldersOf, AreTaken, IsRunAs, IsRunFailure, lacks_guest};
 ghost use Rattle.jv_program_run.specs.Outcome.{IsGuestsFailure, IsRunOutcome};
 
 use crate::running::run_folders;
@@ -37,7 +37,7 @@ fn read_folders<'a, F: Folders>(
     Ok(read)
 }
 
-/// Whether there is no guest with the number of the one that is to be fed, where one is.
+/// Whether there is no guest with a number, where there is one.
 fn is_no_guest(number: Option<u32>, guests: usize) -> bool
     ensures { result ≡ is_no_guest number guests }
 {
@@ -45,6 +45,13 @@ fn is_no_guest(number: Option<u32>, guests: usize) -> bool
         Some(number) => number == 0 || guests < number as usize,
         None => false,
     }
+}
+
+/// Whether a guest that the settings name is of none of so many.
+fn lacks_guest(settings: RunSettings, guests: usize) -> bool
+    ensures { result ≡ lacks_guest settings guests }
+{
+    is_no_guest(settings.stdin, guests) || is_no_guest(settings.raw, guests)
 }
 
 /// Runs the guests of folders that have been read.
@@ -57,7 +64,7 @@ fn run_read<I: Read, W: Watch>(
     watch: &mut W,
 ) -> Result<Outcome, Failure>
     requires few { length folders.now ≤ 64 }
-    requires fed { is_no_guest settings.stdin (length folders.now) ≡ false }
+    requires named { lacks_guest settings (length folders.now) ≡ false }
     ensures ok { IfOk result
         (IsRunOutcome settings (map named_guest folders.now) (I.remaining input.old) (I.remaining input.new)) }
     ensures err { IfErr result
@@ -73,7 +80,7 @@ fn run_read<I: Read, W: Watch>(
 ///
 /// # Errors
 ///
-/// `TooManyFolders` where there are more than 64 words, and `NoGuest` where none is that of the guest that is to be fed; no folder
+/// `TooManyFolders` where there are more than 64 words, and `NoGuest` where none is that of a guest that the settings name; no folder
 /// is then read. `Unreadable` with the name of the first file or folder that can't be read; and else what `run_folders` says of the
 /// folders.
 pub fn run_named<F: Folders, I: Read, W: Watch>(
@@ -94,7 +101,7 @@ pub fn run_named<F: Folders, I: Read, W: Watch>(
     if words.len() > FOLDERS {
         return Err(Failure::TooManyFolders);
     }
-    if is_no_guest(settings.stdin, words.len()) {
+    if lacks_guest(settings, words.len()) {
         return Err(Failure::NoGuest);
     }
     let folders = read_folders(alloc, folders, words)?;

@@ -2,7 +2,8 @@
 
 use jv_host::Budget;
 
-/// What each guest may use, how many steps it gets, and which one is fed.
+/// What each guest may use, how many steps it gets, which one is fed, which one's output is wanted as it is, and how they
+/// are reported.
 #[derive(Clone, Copy)]
 pub struct RunSettings {
     /// Its cells, words and bytes of output.
@@ -13,4 +14,8 @@ pub struct RunSettings {
     pub rounds: u32,
     /// The number of the guest that is fed what is read, the first's being 1.
     pub stdin: Option<u32>,
+    /// The number of the guest whose output goes to standard output as it is, the first's being 1.
+    pub raw: Option<u32>,
+    /// Whether the report is JSON.
+    pub json: bool,
 }

@@ -10,7 +10,7 @@ use Rattle.clap.specs.declared.builder.value_parser.ValueParser.TheVariants as p
 use Rattle.clap.specs.declared.parser.matches.ArgMatches.{ArgMatches}
 use Rattle.clap.proofs.ValueTestLemmas.{Accepts-accepts, accepts-Accepts}
 use Rattle.clap.proofs.WalkLemmas.{one_text-rows, raw_values-rows}
-use Rattle.jv_program_words.specs.Settings.{fed_guest_in, guest_or_none, is_set, number_of, number_or}
+use Rattle.jv_program_words.specs.Settings.{guest_in, guest_or_none, is_set, number_of, number_or}
 
 -- ---- numbers
 
@@ -96,9 +96,9 @@ pub all_in_rows : (m : ArgMatches) (id : List ℕ) → option_map raw_values (ma
 all_in_rows m id = raw_values-rows (found_of m) id
 
 -- the number of a guest is read as that of an option
-pub guest_is : (m : ArgMatches) (text : List ℕ) (r : Option ℕ) → one_of (codes "stdin") (rows_of (found_of m)) ≡ Some text
-    → r ≡ number_or 0 1 64 (one_of (codes "stdin") (rows_of (found_of m))) → fed_guest_in (rows_of (found_of m)) ≡ option_map Some r
-guest_is m text r there e =
+pub guest_is : (m : ArgMatches) (id text : List ℕ) (r : Option ℕ) → one_of id (rows_of (found_of m)) ≡ Some text
+    → r ≡ number_or 0 1 64 (one_of id (rows_of (found_of m))) → guest_in (rows_of (found_of m)) id ≡ option_map Some r
+guest_is m id text r there e =
     ap guest_or_none there ∙ ap (option_map Some) (sym (e ∙ ap (number_or 0 1 64) there))
 
 -- ---- the command

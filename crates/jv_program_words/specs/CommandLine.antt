@@ -1,7 +1,8 @@
 -- The command line (own), as a simple command of the library `clap`, which reads it:
---     jvhost run [--cells N] [--words N] [--output N] [--quantum N] [--rounds N] [--stdin K] [--progress] FOLDER...
---     jvhost check FILE...
---     jvhost explain FILE...
+--     jvhost run [--cells N] [--words N] [--output N] [--quantum N] [--rounds N] [--stdin K] [--raw K] [--json] [--progress] [--time]
+--         FOLDER...
+--     jvhost check [--json] FILE...
+--     jvhost explain [--json] FILE...
 use Rattle.std.specs.Prelude.{ℕ, true, List, Some, codes, pos}
 use Rattle.clap.specs.Lexer.{usize_max}
 use Rattle.clap.specs.Walk.{Rule}
@@ -45,18 +46,31 @@ with_budget line = with_number (codes "output") 0 (with_number (codes "words") 0
 abbrev pub with_steps : App → App
 with_steps line = with_number (codes "rounds") 1 (with_number (codes "quantum") 1 line)
 
--- with which guest is fed, and whether it is told how far the run is
+-- an option with the number of a guest
+abbrev pub with_guest : List ℕ → App → App
+with_guest name line = with_rule line (number_option name 1 64)
+
+-- with whether the report is JSON
+abbrev pub with_form : App → App
+with_form line = with_rule line (flag (codes "json"))
+
+-- with which guest is fed, which one's output is written as it is, and whether the report is JSON
+abbrev pub with_streams : App → App
+with_streams line = with_form (with_guest (codes "raw") (with_guest (codes "stdin") line))
+
+-- with whether it is told how far the run is, and how long the processor took
 abbrev pub with_company : App → App
-with_company line = with_rule (with_rule line (number_option (codes "stdin") 1 64)) (flag (codes "progress"))
+with_company line = with_rule (with_rule line (flag (codes "progress"))) (flag (codes "time"))
 
 abbrev pub run_line : App
-run_line = with_company (with_steps (with_budget (with_rule (new_app (codes "run")) (one_or_more (codes "folder")))))
+run_line =
+    with_company (with_streams (with_steps (with_budget (with_rule (new_app (codes "run")) (one_or_more (codes "folder"))))))
 
 abbrev pub check_line : App
-check_line = with_rule (new_app (codes "check")) (one_or_more (codes "file"))
+check_line = with_form (with_rule (new_app (codes "check")) (one_or_more (codes "file")))
 
 abbrev pub explain_line : App
-explain_line = with_rule (new_app (codes "explain")) (one_or_more (codes "file"))
+explain_line = with_form (with_rule (new_app (codes "explain")) (one_or_more (codes "file")))
 
 -- one of the three commands has to be there; `--help` and `--version` are answered
 abbrev pub command_line : App

@@ -15,7 +15,8 @@ use Rattle.jv_program_words.specs.declared.asked.RunOptions.{RunOptions}
 use Rattle.jv_program_words.specs.declared.asked.Settings.{Settings}
 use Rattle.jv_program_words.specs.declared.asked.Settings.TheVariants as settings
 
--- 65,536 cells, words and bytes of output, and 10,000 rounds of turns of 1,000 steps; no guest is fed, and nothing told on the way
+-- 65,536 cells, words and bytes of output, and 10,000 rounds of turns of 1,000 steps; no guest is fed, no output written as it is, the
+-- report is no JSON, and nothing told besides
 abbrev pub usual_options : RunOptions
 usual_options = record {
   cells = 65536;
@@ -24,7 +25,10 @@ usual_options = record {
   quantum = 1000;
   rounds = 10000;
   stdin = None;
+  raw = None;
+  json = false;
   progress = false;
+  time = false;
 }
 
 -- what is found with the one, where there is one
@@ -47,21 +51,24 @@ number_or usual least most (Some text) = number_of least most text
 abbrev pub number_in : List Row → (name : List ℕ) → (usual least : ℕ) → Option ℕ
 number_in rows name usual least = number_or usual least most_of_32_bits (one_of name rows)
 
--- the number of the guest that is fed, where one is
+-- the number of a guest, where an option names one
 abbrev pub guest_or_none : Option (List ℕ) → Option (Option ℕ)
 guest_or_none None = Some None
 guest_or_none (Some text) = option_map Some (number_of 1 64 text)
 
-abbrev pub fed_guest_in : List Row → Option (Option ℕ)
-fed_guest_in rows = guest_or_none (one_of (codes "stdin") rows)
+abbrev pub guest_in : List Row → (name : List ℕ) → Option (Option ℕ)
+guest_in rows name = guest_or_none (one_of name rows)
 
 -- a flag is there where its text is so
 abbrev pub is_set : Option (List ℕ) → Bool
 is_set None = false
 is_set (Some text) = bytes_eq text (codes "true")
 
--- what each guest may use, how many steps it gets, which is fed, and whether it is told how far the run is, as the rows of a command's
--- arguments have it
+abbrev pub is_flag_in : List Row → (name : List ℕ) → Bool
+is_flag_in rows name = is_set (one_of name rows)
+
+-- what each guest may use, how many steps it gets, which is fed, which one's output is written as it is, whether the report is JSON, and
+-- what is told besides, as the rows of a command's arguments have it
 abbrev pub options_in : List Row → Option RunOptions
 options_in rows =
     number_in rows (codes "cells") usual_options.cells 0 >>= λ cells.
@@ -69,7 +76,8 @@ options_in rows =
     number_in rows (codes "output") usual_options.output 0 >>= λ output.
     number_in rows (codes "quantum") usual_options.quantum 1 >>= λ quantum.
     number_in rows (codes "rounds") usual_options.rounds 1 >>= λ rounds.
-    fed_guest_in rows >>= λ stdin.
+    guest_in rows (codes "stdin") >>= λ stdin.
+    guest_in rows (codes "raw") >>= λ raw.
     Some (record {
       cells = cells;
       words = words;
@@ -77,24 +85,28 @@ options_in rows =
       quantum = quantum;
       rounds = rounds;
       stdin = stdin;
-      progress = is_set (one_of (codes "progress") rows);
+      raw = raw;
+      json = is_flag_in rows (codes "json");
+      progress = is_flag_in rows (codes "progress");
+      time = is_flag_in rows (codes "time");
     })
 
 -- ---- what is asked for
 
--- to run the guests in folders, to check files, or to explain the verdicts on them
+-- to run the guests in folders, to check files, or to explain the verdicts on them, with a report in JSON or not
 pub data Asked : Type 0 where
   run : RunOptions → (folders : List (List ℕ)) → Asked
-  check : (files : List (List ℕ)) → Asked
-  explain : (files : List (List ℕ)) → Asked
+  check : (json : Bool) → (files : List (List ℕ)) → Asked
+  explain : (json : Bool) → (files : List (List ℕ)) → Asked
 
 -- what a command asks for, by its name and the rows of its arguments
 abbrev pub asked_by : List ℕ × List Row → Option Asked
 asked_by (name, rows) =
     if bytes_eq name (codes "run")
     then option_and_then (λ options. option_map (run options) (all_of (codes "folder") rows)) (options_in rows)
-    else if bytes_eq name (codes "check") then option_map check (all_of (codes "file") rows)
-    else if bytes_eq name (codes "explain") then option_map explain (all_of (codes "file") rows) else None
+    else if bytes_eq name (codes "check") then option_map (check (is_flag_in rows (codes "json"))) (all_of (codes "file") rows)
+    else if bytes_eq name (codes "explain") then option_map (explain (is_flag_in rows (codes "json"))) (all_of (codes "file") rows)
+    else None
 
 -- What words that the library takes ask for, of which the first is the program's own name; none where they name no command with its names
 -- and options.
@@ -112,8 +124,8 @@ AreNames texts names = option_map texts_of names ≡ texts
 -- what settings ask for
 abbrev pub asked_of : Settings → Asked
 asked_of (settings.Run options folders) = run options (texts_of folders)
-asked_of (settings.Check files) = check (texts_of files)
-asked_of (settings.Explain files) = explain (texts_of files)
+asked_of (settings.Check json files) = check json (texts_of files)
+asked_of (settings.Explain json files) = explain json (texts_of files)
 
 -- the settings are what is asked for
 abbrev pub IsAskedBy : Option Asked → Option Settings → Type 0

@@ -2,7 +2,8 @@
 ghost use Rattle.std.specs.Prelude.{◌≡◌};
 ghost use Rattle.jv_program_words.specs.Settings.{usual_options};
 
-/// What each guest may use, how many steps it gets, which guest is fed, and whether it is told how far the run is.
+/// What each guest may use, how many steps it gets, which guest is fed, which one's output is written as it is, whether the report is JSON,
+/// and what is told besides.
 #[derive(Clone, Copy)]
 pub struct RunOptions {
     /// The cells of each guest's objects.
@@ -17,8 +18,14 @@ pub struct RunOptions {
     pub rounds: u32,
     /// The number of the guest that is fed what comes on standard input, from 1 to 64, where one is.
     pub stdin: Option<u32>,
+    /// The number of the guest whose output is written as it is, from 1 to 64, where one is.
+    pub raw: Option<u32>,
+    /// Whether the report is JSON.
+    pub json: bool,
     /// Whether it is told how far the run is.
     pub progress: bool,
+    /// Whether it is told how long the processor took.
+    pub time: bool,
 }
 
 /// What the words of the command line ask for.
@@ -26,10 +33,10 @@ pub struct RunOptions {
 pub enum Settings<'a> {
     /// To run the guests in folders, with these options.
     Run(RunOptions, Vec<&'a str>),
-    /// To check files.
-    Check(Vec<&'a str>),
-    /// To explain the verdicts on files.
-    Explain(Vec<&'a str>),
+    /// To check files, with a report in JSON or not.
+    Check(bool, Vec<&'a str>),
+    /// To explain the verdicts on files, with a report in JSON or not.
+    Explain(bool, Vec<&'a str>),
 }
 
 /// What holds where no option is used: 65,536 cells, words and bytes of output, and 10,000 rounds of turns of 1,000 steps.
@@ -43,6 +50,9 @@ pub fn usual_options() -> RunOptions
         quantum: 1_000,
         rounds: 10_000,
         stdin: None,
+        raw: None,
+        json: false,
         progress: false,
+        time: false,
     }
 }

@@ -1,5 +1,5 @@
 //! The command line, as the library that reads it takes it.
-ghost use Rattle.std.specs.Prelude.{◌≡◌, IfOk, false};
+ghost use Rattle.std.specs.Prelude.{◌≡◌, IfOk, codes, false};
 ghost use Rattle.clap.specs.Words.{app_of, rule_of};
 ghost use Rattle.jv_program_words.specs.CommandLine.{check_line, command_line, explain_line, flag, number_option, one_or_more, run_line};
 
@@ -34,6 +34,18 @@ fn flag<'a>(alloc: Global, name: &'a str, help: &'a str) -> Arg<'a>
         .long(name)
         .help(help)
         .action(ArgAction::SetTrue)
+}
+
+/// The flag for reports in JSON.
+fn json<'a>(alloc: Global) -> Arg<'a>
+    ensures rule { rule_of result ≡ flag (codes "json") }
+    ensures local { result.global ≡ false }
+{
+    flag(
+        alloc,
+        "json",
+        "Reports in JSON, a line for each guest or file",
+    )
 }
 
 /// An argument that takes one word or more.
@@ -110,10 +122,24 @@ fn run_line<'a>(alloc: Global) -> Result<Command<'a>, AllocError>
             64,
             "The guest that is fed what comes on standard input",
         ),
+        number(
+            alloc,
+            "raw",
+            "K",
+            1,
+            64,
+            "The guest whose output is written as it is; the report goes to standard error",
+        ),
+        json(alloc),
         flag(
             alloc,
             "progress",
             "Tells once a second how far the run is, where standard error is a terminal",
+        ),
+        flag(
+            alloc,
+            "time",
+            "Tells on standard error how many milliseconds the processor took",
         ),
     ];
     Command::new(alloc, "run")
@@ -127,7 +153,10 @@ fn check_line<'a>(alloc: Global) -> Result<Command<'a>, AllocError>
 {
     let about = "Checks class files as those of one guest, and runs nothing";
     let files = words(alloc, "file", "FILE", "A class file of the guest");
-    Command::new(alloc, "check").about(about).arg(files)
+    let args = [files, json(alloc)];
+    Command::new(alloc, "check")
+        .about(about)
+        .args(Vec::from_array(alloc, args)?)
 }
 
 /// The command `explain FILE...`.
@@ -136,7 +165,10 @@ fn explain_line<'a>(alloc: Global) -> Result<Command<'a>, AllocError>
 {
     let about = "Checks class files as `check` does, and says more of each that isn't accepted";
     let files = words(alloc, "file", "FILE", "A class file of the guest");
-    Command::new(alloc, "explain").about(about).arg(files)
+    let args = [files, json(alloc)];
+    Command::new(alloc, "explain")
+        .about(about)
+        .args(Vec::from_array(alloc, args)?)
 }
 
 /// The program's command line.

@@ -1,7 +1,7 @@
 //! What the words of the command line ask for.
 ghost use Rattle.std.specs.Prelude.{◌≡◌, IfErr, IfOk, map, string_bytes};
 ghost use Rattle.clap.specs.Words.{all_of, found_of, kind_of, one_of, rows_of};
-ghost use Rattle.jv_program_words.specs.Settings.{AreNames, IsAskedBy, IsAskedIn, AreRefused, asked_by, fed_guest_in, is_set, number_or, options_in};
+ghost use Rattle.jv_program_words.specs.Settings.{AreNames, IsAskedBy, IsAskedIn, AreRefused, asked_by, guest_in, is_set, number_or, options_in};
 
 use crate::asked::{RunOptions, Settings, usual_options};
 use crate::command_line::command_line;
@@ -32,14 +32,14 @@ fn number_between(
     }
 }
 
-/// The number of the guest that is fed, where one is; none where it is no such number.
-fn fed_guest_in(found: &ArgMatches<'_>) -> Option<Option<u32>>
-    ensures { result ≡ fed_guest_in (rows_of (found_of found.now)) }
+/// The number of the guest that an option names, where it is used; none where it is no such number.
+fn guest_in(found: &ArgMatches<'_>, name: &str) -> Option<Option<u32>>
+    ensures { result ≡ guest_in (rows_of (found_of found.now)) name.now }
 {
-    let Some(_) = found.get_str("stdin") else {
+    let Some(_) = found.get_str(name) else {
         return Some(None);
     };
-    let Some(number) = number_between(found, "stdin", 0, 1, 64) else {
+    let Some(number) = number_between(found, name, 0, 1, 64) else {
         return None;
     };
     Some(Some(number))
@@ -63,8 +63,11 @@ fn options_in(found: &ArgMatches<'_>) -> Option<RunOptions>
     let output = number_between(found, "output", usual.output, 0, most)?;
     let quantum = number_between(found, "quantum", usual.quantum, 1, most)?;
     let rounds = number_between(found, "rounds", usual.rounds, 1, most)?;
-    let stdin = fed_guest_in(found)?;
+    let stdin = guest_in(found, "stdin")?;
+    let raw = guest_in(found, "raw")?;
+    let json = is_set(found, "json");
     let progress = is_set(found, "progress");
+    let time = is_set(found, "time");
     Some(RunOptions {
         cells,
         words,
@@ -72,7 +75,10 @@ fn options_in(found: &ArgMatches<'_>) -> Option<RunOptions>
         quantum,
         rounds,
         stdin,
+        raw,
+        json,
         progress,
+        time,
     })
 }
 
@@ -104,9 +110,11 @@ fn asked_by<'a>(
         };
         Ok(names_in(alloc, found, "folder")?.map(|folders| Settings::Run(options, folders)))
     } else if command == "check" {
-        Ok(names_in(alloc, found, "file")?.map(Settings::Check))
+        let json = is_set(found, "json");
+        Ok(names_in(alloc, found, "file")?.map(|files| Settings::Check(json, files)))
     } else if command == "explain" {
-        Ok(names_in(alloc, found, "file")?.map(Settings::Explain))
+        let json = is_set(found, "json");
+        Ok(names_in(alloc, found, "file")?.map(|files| Settings::Explain(json, files)))
     } else {
         Ok(None)
     }

@@ -30,6 +30,7 @@ fn given<R: Env + RandomSource + AllocGlobal>(rt: &R) -> Result<(Vec<String>, Ra
 fn main(rt: HostRuntime) -> ExitCode {
     let mut out = Stream(rt.stdout());
     let mut err = Stream(rt.stderr());
+    let mut company = ProgressLine::new(&rt, rt.stderr());
     let status = match given(&rt) {
         Ok((words, state)) => command_watched(
             rt.alloc(),
@@ -39,12 +40,13 @@ fn main(rt: HostRuntime) -> ExitCode {
             &mut rt.stdin(),
             &mut out,
             &mut err,
-            &mut ProgressLine::new(&rt, rt.stderr()),
+            &mut company,
         ),
         Err(stop) => {
             let _ = tell(&stop, &mut out, &mut err);
             stop.status()
         }
     };
+    company.tell_time();
     ExitCode::from(status)
 }

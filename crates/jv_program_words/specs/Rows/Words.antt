@@ -1,5 +1,5 @@
 -- Worked rows of the command line: what words ask for, and in which kind others are refused.
-use Rattle.std.specs.Prelude.{◌≡◌, ℕ, true, List, [], ◌∷◌, Some, None, codes}
+use Rattle.std.specs.Prelude.{◌≡◌, ℕ, true, false, List, [], ◌∷◌, Some, None, codes}
 use Rattle.clap.specs.Words.{fault_of}
 use Rattle.clap.specs.declared.error.kind.ErrorKind.TheVariants as kinds
 use Rattle.jv_program_words.specs.CommandLine.{command_line}
@@ -20,10 +20,20 @@ pub record WordRows : Type 0 where
       ≡ Some (run (record usual_options { stdin = Some 2 }) (codes "a" ∷ codes "b" ∷ []))
   pub told : asked_in (words (codes "run" ∷ codes "--progress" ∷ codes "a" ∷ []))
       ≡ Some (run (record usual_options { progress = true }) (codes "a" ∷ []))
+  pub judged : asked_in (words (codes "run" ∷ codes "--raw" ∷ codes "1" ∷ codes "--stdin" ∷ codes "1" ∷ codes "a" ∷ []))
+      ≡ Some (run (record usual_options { stdin = Some 1; raw = Some 1 }) (codes "a" ∷ []))
+  pub timed : asked_in (words (codes "run" ∷ codes "--time" ∷ codes "a" ∷ []))
+      ≡ Some (run (record usual_options { time = true }) (codes "a" ∷ []))
   pub files : asked_in (words (codes "check" ∷ codes "A.class" ∷ codes "B.class" ∷ []))
-      ≡ Some (check (codes "A.class" ∷ codes "B.class" ∷ []))
+      ≡ Some (check false (codes "A.class" ∷ codes "B.class" ∷ []))
   pub explained : asked_in (words (codes "explain" ∷ codes "A.class" ∷ codes "B.class" ∷ []))
-      ≡ Some (explain (codes "A.class" ∷ codes "B.class" ∷ []))
+      ≡ Some (explain false (codes "A.class" ∷ codes "B.class" ∷ []))
+  pub lines : asked_in (words (codes "run" ∷ codes "a" ∷ codes "--json" ∷ []))
+      ≡ Some (run (record usual_options { json = true }) (codes "a" ∷ []))
+  pub checked_lines : asked_in (words (codes "check" ∷ codes "--json" ∷ codes "A.class" ∷ []))
+      ≡ Some (check true (codes "A.class" ∷ []))
+  pub explained_lines : asked_in (words (codes "explain" ∷ codes "A.class" ∷ codes "--json" ∷ []))
+      ≡ Some (explain true (codes "A.class" ∷ []))
   pub nothing : asked_in (words []) ≡ None
   pub no_command : fault_of command_line (words []) ≡ kinds.MissingSubcommand ∷ []
   pub no_folder : fault_of command_line (words (codes "run" ∷ [])) ≡ kinds.MissingRequiredArgument ∷ []

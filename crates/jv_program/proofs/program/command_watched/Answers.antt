@@ -14,17 +14,18 @@ returns-clause-ended g c =
     let mid = g.O.Sink.contents c.carry_out-end.new.out in
     let new = g.O.Sink.contents c.match-end.out in
     let e0 = g.E.Sink.contents c.args.err.now in
-    let e1 = g.E.Sink.contents c.match-end.err in
+    let e1 = g.E.Sink.contents c.carry_out-end.new.err in
+    let e2 = g.E.Sink.contents c.match-end.err in
     let sure = g.E.Sink.SURE in
     let end = c.carry_out-end.result in
-    let told : IsToldAfter sure mid new e0 e1 end = elim c.match-end.branch [
+    let told : IsToldAfter sure mid new e1 e2 end = elim c.match-end.branch [
       | in-Err w ↦
-          subst (λ (r : Result Outcome Stop). IsToldAfter sure mid new e0 e1 r) (sym w.in-Err.is)
-          (told_of sure mid new e0 e1 (g.E.Sink.contents w.tell.new.err) _ w.tell.result (ap g.E.Sink.contents w.err-is)
+          subst (λ (r : Result Outcome Stop). IsToldAfter sure mid new e1 e2 r) (sym w.in-Err.is)
+          (told_of sure mid new e1 e2 (g.E.Sink.contents w.tell.new.err) _ w.tell.result (ap g.E.Sink.contents w.err-is)
           (λ not. ap g.O.Sink.contents (w.out-is ∙ w.tell.ensures.quiet not)) (λ asked. ap g.E.Sink.contents (w.tell.ensures.calm asked))
           w.tell.ensures.failure w.tell.ensures.output w.tell.ensures.sure)
-      | in_default w ↦ subst (λ (r : Result Outcome Stop). IsToldAfter sure mid new e0 e1 r) (sym w.in_default.is)
+      | in_default w ↦ subst (λ (r : Result Outcome Stop). IsToldAfter sure mid new e1 e2 r) (sym w.in_default.is)
           (ap g.O.Sink.contents w.out-is, ap g.E.Sink.contents w.err-is)
     ] in
-    ended (g.F.Folders.disk c.args.folders.now) g.O.Sink.SURE sure (map string_bytes c.args.words.now) b0 b1 old mid new e0 e1 end c.status_of.result
+    ended (g.F.Folders.disk c.args.folders.now) g.O.Sink.SURE sure (map string_bytes c.args.words.now) b0 b1 old mid new e0 e1 e2 end c.status_of.result
     c.carry_out-end.ensures.carried told c.status_of.ensures

@@ -1,7 +1,10 @@
-use Rattle.std.proofs.Common.{map}
+use Rattle.std.proofs.Common.{map, inr, subst}
 use Rattle.std.specs.Prelude.{string_bytes}
 use Rattle.jv_program_base.proofs.Places.{passed_on}
+use Rattle.jv_program_words.specs.declared.asked.Settings.{Settings}
+use Rattle.jv_program_words.specs.Settings.{IsAskedIn, texts_of}
 use Rattle.jv_program.specs.Inside.Stops.{IsEarly}
+use Rattle.jv_program.proofs.Ends.{alone}
 use Rattle.jv_program.proofs.program.outcome_for.Goals as goal
 
 pub returns-in_err-options-clause-err : goal.returns-in_err-options-clause-err
@@ -11,3 +14,29 @@ returns-in_err-options-clause-err g c =
     let input = g.I.Read.remaining c.args.input.now in
     passed_on c.from_residual.result c.in_err-options.field-0.0 (IsEarly disk line input input) c.from_residual.ensures.1
     ((c.in_err-options.ensures {u = tt}).err disk input)
+
+pub returns-in_err-run_for-in-Run-clause-alone : goal.returns-in_err-run_for-in-Run-clause-alone
+returns-in_err-run_for-in-Run-clause-alone g c = λ none.
+    let line = map string_bytes c.args.words.now in
+    let asked = subst (λ (s : Settings). IsAskedIn line s) c.in-Run.is (c.in_ok-options.ensures {u = tt}).ok in
+    let quiet = alone line c.in-Run.options (texts_of c.in-Run.named) asked none in
+    c.run_for.ensures.alone quiet.0 quiet.1
+
+pub returns-in_ok-run_for-in-Run-clause-alone : goal.returns-in_ok-run_for-in-Run-clause-alone
+returns-in_ok-run_for-in-Run-clause-alone g c = λ none.
+    let line = map string_bytes c.args.words.now in
+    let asked = subst (λ (s : Settings). IsAskedIn line s) c.in-Run.is (c.in_ok-options.ensures {u = tt}).ok in
+    let quiet = alone line c.in-Run.options (texts_of c.in-Run.named) asked none in
+    c.run_for.ensures.alone quiet.0 quiet.1
+
+pub returns-in_err-explain_named-in-Explain-clause-unread : goal.returns-in_err-explain_named-in-Explain-clause-unread
+returns-in_err-explain_named-in-Explain-clause-unread g c = λ none.
+    let line = map string_bytes c.args.words.now in
+    let asked = subst (λ (s : Settings). IsAskedIn line s) c.in-Explain.is (c.in_ok-options.ensures {u = tt}).ok in
+    absurd (none (inr (inr (c.in-Explain.json, texts_of c.in-Explain.names, asked))))
+
+pub returns-in_ok-explain_named-in-Explain-clause-unread : goal.returns-in_ok-explain_named-in-Explain-clause-unread
+returns-in_ok-explain_named-in-Explain-clause-unread g c = λ none.
+    let line = map string_bytes c.args.words.now in
+    let asked = subst (λ (s : Settings). IsAskedIn line s) c.in-Explain.is (c.in_ok-options.ensures {u = tt}).ok in
+    absurd (none (inr (inr (c.in-Explain.json, texts_of c.in-Explain.names, asked))))

@@ -11,7 +11,7 @@ use Rattle.jv_program_words.proofs.command_line.run_line.Goals as goal
 pub returns : goal.returns
 returns c =
     let args : List Arg = c.words.result ∷ c.number.result ∷ c.number-2.result ∷ c.number-3.result ∷ c.number-4.result ∷ c.number-5.result
-    ∷ c.number-6.result ∷ c.flag.result ∷ [] in
+    ∷ c.number-6.result ∷ c.number-7.result ∷ c.json.result ∷ c.flag.result ∷ c.flag-2.result ∷ [] in
     let items : c.in_ok-from_array.field-0.items ≡ args = search rules in
     let start : app_of c.about.result ≡ new_app (codes "run") = ap app_of_fields c.about.ensures ∙ c.new.ensures.app in
     let from_start : with_rules (app_of c.about.result) args ≡ with_rules (new_app (codes "run")) args = ap (λ (a : App). with_rules a args) start in
@@ -24,7 +24,13 @@ returns c =
         c.number.ensures.local,
         (
           c.number-2.ensures.local,
-          (c.number-3.ensures.local, (c.number-4.ensures.local, (c.number-5.ensures.local, (c.number-6.ensures.local, (c.flag.ensures.local, tt))))),
+          (
+            c.number-3.ensures.local,
+            (
+              c.number-4.ensures.local,
+              (c.number-5.ensures.local, (c.number-6.ensures.local, (c.number-7.ensures.local, (c.json.ensures.local, (c.flag.ensures.local, (c.flag-2.ensures.local, tt)))))),
+            ),
+          ),
         ),
       ),
     )

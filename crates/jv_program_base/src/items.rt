@@ -6,7 +6,7 @@ ghost use Rattle.jv_limits.specs.Bytes.{bytes_of};
 use jv_meaning_typing::Verdict;
 
 /// The bytes at a place.
-pub(crate) fn bytes_at<'a>(list: &[&'a [u8]], place: usize) -> &'a [u8]
+pub fn bytes_at<'a>(list: &[&'a [u8]], place: usize) -> &'a [u8]
     requires { place < length list.now }
     ensures { option_map bytes_of (slice_get list.now place) ≡ Some result.now }
 {
@@ -14,7 +14,7 @@ pub(crate) fn bytes_at<'a>(list: &[&'a [u8]], place: usize) -> &'a [u8]
 }
 
 /// The verdict at a place.
-pub(crate) fn verdict_at(verdicts: &[Verdict], place: usize) -> Verdict
+pub fn verdict_at(verdicts: &[Verdict], place: usize) -> Verdict
     requires { place < length verdicts.now }
     ensures { slice_get verdicts.now place ≡ Some result }
 {
@@ -22,7 +22,7 @@ pub(crate) fn verdict_at(verdicts: &[Verdict], place: usize) -> Verdict
 }
 
 /// The text at a place.
-pub(crate) fn text_at(texts: &[String], place: usize) -> &str
+pub fn text_at(texts: &[String], place: usize) -> &str
     requires { place < length texts.now }
     ensures { option_map string_bytes (slice_get texts.now place) ≡ Some result.now }
 {

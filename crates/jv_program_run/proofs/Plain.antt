@@ -1,0 +1,41 @@
+-- Reports in JSON have no floating point.
+use Rattle.std.proofs.Common.{ℕ, List, [], ◌∷◌, All, Option, Some, None, codes, map, refl}
+use Rattle.std.proofs.lemmas.List.Elements.{All-cons, All-nil}
+use Rattle.serde_json.specs.Data.{Members, no_members}
+use Rattle.jv_meaning_machine.specs.State.{End}
+use Rattle.jv_meaning_machine.specs.State.End.{Running, Returned, Threw, NoMain}
+use Rattle.jv_json.specs.Members.{with_bytes, with_number, with_text}
+use Rattle.jv_json.proofs.Plain.{ArePlain, IsPlain, bytes_plain, number_plain, text_plain, with_files_plain}
+use Rattle.jv_program_run.specs.Json.{guest_members, told_value, with_ending, with_last}
+use Rattle.jv_program_run.specs.Report.{Told}
+
+last_plain : (last : Option (List ℕ)) (before : Members) → ArePlain before → ArePlain (with_last last before)
+last_plain None before are = are
+last_plain (Some name) before are = bytes_plain (codes "last") name before are
+
+ending_plain : (end : End) (before : Members) → ArePlain before → ArePlain (with_ending end before)
+ending_plain Running before are = text_plain (codes "end") (codes "Running") before are
+ending_plain Returned before are = text_plain (codes "end") (codes "Returned") before are
+ending_plain (Threw name) before are =
+    bytes_plain (codes "threw") name (with_text (codes "end") (codes "Threw") before) (text_plain (codes "end") (codes "Threw") before are)
+ending_plain NoMain before are = text_plain (codes "end") (codes "NoMain") before are
+
+guest_plain : (t : Told) → ArePlain (guest_members t)
+guest_plain t =
+    let number = with_number (codes "guest") t.number no_members in
+    with_files_plain t.names t.seen.verdicts (with_bytes (codes "folder") t.word number)
+    (bytes_plain (codes "folder") t.word number (number_plain (codes "guest") t.number no_members refl))
+
+told_plain : (t : Told) → IsPlain (told_value t)
+told_plain t =
+    let steps = with_number (codes "steps") t.seen.steps (guest_members t) in
+    let throws = with_number (codes "throws") t.seen.throws steps in
+    let last = with_last t.seen.last throws in
+    ending_plain t.seen.end (with_bytes (codes "output") t.seen.output last)
+    (bytes_plain (codes "output") t.seen.output last
+    (last_plain t.seen.last throws
+    (number_plain (codes "throws") t.seen.throws steps (number_plain (codes "steps") t.seen.steps (guest_members t) (guest_plain t)))))
+
+pub all_plain : (told : List Told) → All IsPlain (map told_value told)
+all_plain [] = All-nil IsPlain
+all_plain (t ∷ told) = All-cons IsPlain (told_value t) (map told_value told) (told_plain t) (all_plain told)

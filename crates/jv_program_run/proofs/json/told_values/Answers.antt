@@ -1,0 +1,13 @@
+use Rattle.std.proofs.Common.{rules, ◌≡◌, ◌∷◌, ◌++◌, []}
+use Rattle.jv_program_base.proofs.Places.{in_place}
+use Rattle.jv_program_run.proofs.Reports.{pushed_value}
+use Rattle.jv_program_run.proofs.json.told_values.Goals as goal
+
+pub loop-report-preserved : goal.loop-report-preserved
+loop-report-preserved c =
+    let reports = c.args.reports.now in
+    let k = c.loop-report.report-index in
+    let before = c.loop-report.values.items in
+    let pushed : c.push.new.self.items ≡ before ++ c.in_ok-value.value ∷ [] = search rules in
+    pushed_value reports k _ before c.push.new.self.items c.in_ok-value.value (in_place reports k _ c.loop-report-test.true) pushed
+    (c.in_ok-value.ensures {u = tt}) c.loop-report.invariant

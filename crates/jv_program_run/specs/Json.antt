@@ -1,0 +1,42 @@
+-- The report on guests as JSON (own).
+use Rattle.std.specs.Prelude.{ℕ, Bool, List, Option, Some, None, codes, map, if◌then◌else◌}
+use Rattle.serde_json.specs.Data.{Data, Members, no_members, object}
+use Rattle.jv_meaning_machine.specs.State.{End}
+use Rattle.jv_meaning_machine.specs.State.End.{Running, Returned, Threw, NoMain}
+use Rattle.jv_meaning_machine.specs.Observation.{Observed}
+use Rattle.jv_json.specs.Files.{with_files}
+use Rattle.jv_json.specs.Lines.{json_lines}
+use Rattle.jv_json.specs.Members.{with_bytes, with_number, with_text}
+use Rattle.jv_program_run.specs.Report.{Told, report_text}
+
+-- the class of what was thrown last, where something was
+abbrev pub with_last : Option (List ℕ) → Members → Members
+with_last None members = members
+with_last (Some name) members = with_bytes (codes "last") name members
+
+-- how a guest ended, and of an exception that left `main` the class
+abbrev pub with_ending : End → Members → Members
+with_ending Running members = with_text (codes "end") (codes "Running") members
+with_ending Returned members = with_text (codes "end") (codes "Returned") members
+with_ending (Threw name) members = with_bytes (codes "threw") name (with_text (codes "end") (codes "Threw") members)
+with_ending NoMain members = with_text (codes "end") (codes "NoMain") members
+
+-- what a guest showed, but for its verdicts
+abbrev pub with_seen : Observed → Members → Members
+with_seen seen members =
+    with_ending seen.end
+    (with_bytes (codes "output") seen.output
+    (with_last seen.last (with_number (codes "throws") seen.throws (with_number (codes "steps") seen.steps members))))
+
+-- which guest it is, and its class files, each with its verdict
+abbrev pub guest_members : Told → Members
+guest_members told =
+    with_files told.names told.seen.verdicts
+    (with_bytes (codes "folder") told.word (with_number (codes "guest") told.number no_members))
+
+abbrev pub told_value : Told → Data
+told_value told = object (with_seen told.seen (guest_members told))
+
+-- the report: in JSON a line for each guest
+abbrev pub run_report : (json : Bool) → List Told → List ℕ
+run_report json told = if json then json_lines (map told_value told) else report_text told

@@ -1,0 +1,124 @@
+//! The report on guests as JSON.
+ghost use Rattle.std.specs.Prelude.{◌≡◌, IfOk, OnOk, codes, map, string_bytes};
+ghost use Rattle.std.specs.Option.{option_map};
+ghost use Rattle.serde_json.specs.View.{members_view, view};
+ghost use Rattle.jv_host.specs.Showing.{bytes_seen, observed_of, seen_end};
+ghost use Rattle.jv_json.specs.Members.{with_number};
+ghost use Rattle.jv_program_run.specs.Inside.Play.{told_of};
+ghost use Rattle.jv_program_run.specs.Json.{guest_members, run_report, told_value, with_ending, with_last, with_seen};
+
+use crate::report::{Report, Reports};
+use jv_host::{GuestEnd, Observation};
+use jv_json::{json_lines, put_bytes, put_files, put_number, put_text};
+use serde_json::{Map, Value};
+use std::alloc::{AllocError, Global};
+
+/// Puts the class of what was thrown last, where something was.
+fn put_last(
+    members: &mut Map<String, Value>,
+    alloc: Global,
+    last: Option<&[u8]>,
+) -> Result<(), AllocError>
+    ensures { OnOk result (members_view members.new.entries
+        ≡ with_last (option_map bytes_seen last.entry) (members_view members.old.entries)) }
+{
+    match last {
+        Some(name) => put_bytes(members, alloc, "last", name),
+        None => Ok(()),
+    }
+}
+
+/// Puts how a guest ended, and of an exception that left `main` the class.
+fn put_ending(
+    members: &mut Map<String, Value>,
+    alloc: Global,
+    end: GuestEnd<'_>,
+) -> Result<(), AllocError>
+    ensures { OnOk result (members_view members.new.entries ≡ with_ending (seen_end end.entry) (members_view members.old.entries)) }
+{
+    match end {
+        GuestEnd::Running => put_text(members, alloc, "end", "Running"),
+        GuestEnd::Returned => put_text(members, alloc, "end", "Returned"),
+        GuestEnd::Threw(name) => {
+            put_text(members, alloc, "end", "Threw")?;
+            put_bytes(members, alloc, "threw", name)
+        }
+        GuestEnd::NoMain => put_text(members, alloc, "end", "NoMain"),
+    }
+}
+
+/// Puts how many steps a guest took, and how often something was thrown.
+fn put_counts(
+    members: &mut Map<String, Value>,
+    alloc: Global,
+    seen: &Observation<'_>,
+) -> Result<(), AllocError>
+    ensures { OnOk result (members_view members.new.entries
+        ≡ with_last (observed_of seen.now).last (with_number (codes "throws") seen.now.throws
+        (with_number (codes "steps") seen.now.steps (members_view members.old.entries)))) }
+{
+    put_number(members, alloc, "steps", seen.steps)?;
+    put_number(members, alloc, "throws", seen.throws)?;
+    put_last(members, alloc, seen.last)
+}
+
+/// Puts what a guest showed, but for its verdicts.
+fn put_seen(
+    members: &mut Map<String, Value>,
+    alloc: Global,
+    seen: &Observation<'_>,
+) -> Result<(), AllocError>
+    ensures { OnOk result (members_view members.new.entries ≡ with_seen (observed_of seen.now) (members_view members.old.entries)) }
+{
+    put_counts(members, alloc, seen)?;
+    put_bytes(members, alloc, "output", seen.output)?;
+    put_ending(members, alloc, seen.end)
+}
+
+/// Which guest it is, and its class files, each with its verdict.
+fn guest_members(alloc: Global, report: &Report<'_>) -> Result<Map<String, Value>, AllocError>
+    ensures { IfOk result (λ members. members_view members.entries ≡ guest_members (told_of report.now)) }
+{
+    let mut members = Map::new(alloc);
+    put_number(&mut members, alloc, "guest", u64::from(report.number))?;
+    put_bytes(&mut members, alloc, "folder", report.word)?;
+    put_files(&mut members, alloc, report.names, report.seen.verdicts)?;
+    Ok(members)
+}
+
+/// The report on a guest.
+fn told_value(alloc: Global, report: &Report<'_>) -> Result<Value, AllocError>
+    ensures { IfOk result (λ value. view value ≡ told_value (told_of report.now)) }
+{
+    let mut members = guest_members(alloc, report)?;
+    put_seen(&mut members, alloc, &report.seen)?;
+    Ok(Value::Object(members))
+}
+
+/// The reports on guests, one behind the other.
+fn told_values(alloc: Global, reports: &[Report<'_>]) -> Result<Vec<Value>, AllocError>
+    ensures { IfOk result (λ values. map view values.items ≡ map told_value (map told_of reports.now)) }
+{
+    let mut values = Vec::new(alloc);
+    for report in reports {
+        let value = told_value(alloc, report)?;
+        values.push(value).map_err(AllocError::from)?;
+    }
+    Ok(values)
+}
+
+/// The reports as they are printed, in JSON or not.
+pub(crate) fn run_report(
+    alloc: Global,
+    json: bool,
+    reports: &[Report<'_>],
+) -> Result<String, AllocError>
+    ensures { IfOk result (λ report. string_bytes report ≡ run_report json (map told_of reports.now)) }
+{
+    if json {
+        let values = told_values(alloc, reports)?;
+        json_lines(alloc, values.as_slice())
+    } else {
+        Reports(reports).to_string(alloc)
+    }
+}
