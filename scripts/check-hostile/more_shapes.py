@@ -208,6 +208,31 @@ def handlers_in_turn(folder, scale, handlers=2000, stores=5000, words=40):
     made.write(folder)
 
 
+def covered_stores(folder, scale, catches, methods=7):
+    """32,765 stores in each of seven methods, under 65,535 handlers that cover them all and lead to one frame; they catch these by turns."""
+    made = ClassFile("Main")
+    made.main()
+    code = bytes([177]) + bytes([3, 59]) * scaled(scale, 32765) + bytes([177, 191])
+    end = len(code) - 1
+    caught = [u2(made.named(name)) if name else u2(0) for name in catches]
+    table = b"".join(u2(1) + u2(end) + u2(end) + caught[k % len(caught)] for k in range(scaled(scale, 65535)))
+    thrown = u1(7) + u2(made.named("java/lang/Throwable"))
+    spelled = full(1, [INT], []) + full(end - 2, [INT], [thrown])
+    for n in range(methods):
+        made.method(9, f"m{n}", "()V", 1, 1, code, table, (2, spelled))
+    made.write(folder)
+
+
+def handlers_alike(folder, scale):
+    """Seven methods of 65,535 identical handlers over 32,765 stores each."""
+    covered_stores(folder, scale, [""])
+
+
+def handlers_by_turns(folder, scale):
+    """handlers_alike where they catch two types by turns."""
+    covered_stores(folder, scale, ["java/lang/Exception", "java/lang/Error"])
+
+
 # ---- over in memory
 
 def arguments_many(folder, scale):
@@ -432,9 +457,10 @@ def fields_short(folder, scale):
 
 SHAPES = [
     new_high, stores_high, locals_by_turns, long_by_interfaces, long_by_copies, long_by_many, handlers_begin_in_turn, refused_handlers_and_stores,
-    refused_handlers_in_turn, refused_start_in_turn, start_at_random, start_at_random_far, handlers_in_turn, arguments_many, names_many,
-    names_below_chain, names_and_frames, methods_and_names, methods_at_powers, methods_short, texts_empty, texts_and_names, finals_of_empty,
-    finals_of_same, finals_in_many, walked_plain, walked_found, params_tiny, classes_few, supers_all, fields_short,
+    refused_handlers_in_turn, refused_start_in_turn, start_at_random, start_at_random_far, handlers_in_turn, handlers_alike, handlers_by_turns,
+    arguments_many, names_many, names_below_chain, names_and_frames, methods_and_names, methods_at_powers, methods_short, texts_empty,
+    texts_and_names, finals_of_empty, finals_of_same, finals_in_many, walked_plain, walked_found, params_tiny, classes_few, supers_all,
+    fields_short,
 ]
 
 
