@@ -1,4 +1,4 @@
--- Frames of the map that have the local entries of one before.
+-- Frames of the map that have, below some of their local entries, those of one before.
 use Rattle.std.proofs.Common.{◌≡◌, ℕ, zero, suc, ◌<◌, Bool, true, false, ◌&&◌, List, [], ◌∷◌, take, drop, Option, Some, None, refl, sym, ap, ◌∙◌, arith, is_some}
 use Rattle.std.specs.Prelude.{slice_get}
 use Rattle.std.specs.List.{list_all}
@@ -6,9 +6,9 @@ use Rattle.std.specs.Option.{option_map}
 use Rattle.std.proofs.lemmas.List.{take-append-drop}
 use Rattle.std.proofs.lemmas.List.Folds.{list_all-append}
 use Rattle.jv_stackmap.specs.declared.entry.FrameEntry.{FrameEntry}
-use Rattle.jv_stackmap.specs.Entries.{ReadFrame, locals_in}
+use Rattle.jv_stackmap.specs.Entries.{ReadFrame}
 use Rattle.jv_meaning_typing.specs.Environment.{Environment, instruction_at}
-use Rattle.jv_verify_pass.specs.Inside.Parts.{SharesBefore, SharesBelowBefore, is_made_by_new, frame_stands}
+use Rattle.jv_verify_pass.specs.Inside.Parts.{SharesBelowBefore, is_made_by_new, frame_stands}
 use Rattle.jv_verify_pass.proofs.Tests.{both}
 
 -- each of those before a place passes
@@ -26,27 +26,6 @@ one_there xs k x y e f = of_some (sym e ∙ f)
   where
     of_some : Some x ≡ Some y → x ≡ y
     of_some e = cc
-
-pub made_before : (env : Environment) (frames : List ReadFrame) (place : ℕ) (f : ReadFrame) → list_all (frame_stands env) (take place frames) ≡ true → SharesBefore frames place
-    → slice_get frames place ≡ Some f → true ≡ list_all (is_made_by_new env) f.locals
-made_before env frames place f before shares at = by_frame (slice_get frames shares.0) refl
-  where
-    there : option_map locals_in (slice_get frames shares.0) ≡ Some f.locals
-    there = shares.2 ∙ ap (option_map locals_in) at
-
-    of_some : (a b : List FrameEntry) → Some a ≡ Some b → a ≡ b
-    of_some a b e = cc
-
-    none_some : (b : List FrameEntry) → None ≡ Some b → ⊥
-    none_some b e = cc
-
-    by_frame : (o : Option ReadFrame) → slice_get frames shares.0 ≡ o → true ≡ list_all (is_made_by_new env) f.locals
-    by_frame None e = absurd (none_some f.locals (sym (ap (option_map locals_in) e) ∙ there))
-    by_frame (Some g) e =
-        let stands : frame_stands env g ≡ true = passes_before (frame_stands env) frames place shares.0 g before shares.1 e in
-        let parts = both (is_some (instruction_at env g.offset)) (list_all (is_made_by_new env) g.locals && list_all (is_made_by_new env) g.stack) stands in
-        let made = both (list_all (is_made_by_new env) g.locals) (list_all (is_made_by_new env) g.stack) parts.1 in
-        sym (ap (list_all (is_made_by_new env)) (sym (of_some g.locals f.locals (sym (ap (option_map locals_in) e) ∙ there))) ∙ made.0)
 
 -- entries of which the last were made, where those below are below some of a frame before it
 pub made_below : (env : Environment) (frames : List ReadFrame) (place count : ℕ) (f : ReadFrame) → list_all (frame_stands env) (take place frames) ≡ true

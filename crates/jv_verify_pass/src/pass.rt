@@ -1,16 +1,14 @@
 //! A method whose code is checked.
 
-ghost use Rattle.std.specs.Prelude.{◌≡◌, ◌≤◌, ◌<◌, ℕ, List, length, slice_get, Some, IfSome, IsTrue};
+ghost use Rattle.std.specs.Prelude.{◌≡◌, ◌≤◌, ℕ, List, slice_get, Some, IfSome};
 ghost use Rattle.std.specs.List.{All};
 ghost use Rattle.std.specs.Option.{option_map};
 ghost use Rattle.jv_format.specs.Handlers.{handlers_of};
-ghost use Rattle.jv_stackmap.specs.Entries.{locals_in};
 ghost use Rattle.jv_stackmap.specs.Types.{words};
 ghost use Rattle.jv_meaning_typing.specs.Environment.{Environment};
 ghost use Rattle.jv_meaning_typing.specs.Typing.{catch_type, frame_at};
 ghost use Rattle.jv_verify_types.specs.Typed.{typed, typed_all};
 ghost use Rattle.jv_verify_pass.specs.Pass.{IsOfPass, HasRoom, names_in, IsFrameAt};
-ghost use Rattle.jv_verify_pass.specs.Inside.Kept.{SharesWith};
 
 use crate::catching::catch_type;
 use jv_format::ExceptionTable;
@@ -18,13 +16,6 @@ use jv_stackmap::{MapFrame, MapFrames, offsets_rise};
 use jv_verify_rules::MethodContext;
 use jv_verify_types::{EntryTypes, Item};
 use std::marker::Model;
-
-/// The part of the words of a frame's local entries that it has apart from another at most that shares all but few: one in so many.
-const FAR: u16 = 4;
-
-/// So many of a method's local variables allow for one word more that is apart: to make a frame anew costs each of these that was written,
-/// or one below.
-const WIDE: u16 = 256;
 
 /// A method whose code is checked: what the rules ask of it, its initial local entries, with their words, its handlers, and
 /// the frames of its stack map.
@@ -120,31 +111,6 @@ impl<'p, 'm, 'e, 't, 'a> Pass<'p, 'm, 'e, 't, 'a> {
         offsets_rise();
         let place = self.frames.place_of(offset)?;
         Some((place, self.frames.frame_at(place)))
-    }
-
-    /// Whether two frames of the stack map are known to have the same local entries.
-    pub(crate) fn share_locals(&self, place: usize, other: usize) -> bool
-        ensures there { IsTrue result → other < length self.now.frames }
-        ensures same { IsTrue result → option_map locals_in (slice_get self.now.frames place)
-            ≡ option_map locals_in (slice_get self.now.frames other) }
-    {
-        let count = self.frames.count();
-        place < count && other < count && self.frames.share_locals(place, other)
-    }
-
-    /// The words of the local entries of the frame of the map at a place, and how many of the last entries of another are above those that
-    /// both are known to share, where it has but few others.
-    pub(crate) fn shared_with(&self, place: usize, other: usize) -> Option<(u16, usize)>
-        ensures { IfSome result (λ x. SharesWith self.now place other x.0 x.1) }
-    {
-        let count = self.frames.count();
-        if place >= count || other >= count {
-            return None;
-        }
-        let words = self.frames.frame_at(place).local_words();
-        let most = usize::from((words / FAR).max(self.max_locals / WIDE));
-        let above = self.frames.above_shared(place, other, most)?;
-        Some((words, above.1))
     }
 
     /// The type that a handler with this index catches; `None` where the index names none.

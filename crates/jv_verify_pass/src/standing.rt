@@ -1,23 +1,17 @@
 //! Where frames of a stack map stand, and where what is not initialized in them was made (JVMS 4.7.4).
 
-ghost use Rattle.std.specs.Prelude.{◌≡◌, ◌<◌, true, length, slice_get, take, Some, IfSome, IsTrue, is_some};
+ghost use Rattle.std.specs.Prelude.{◌≡◌, ◌<◌, true, length, slice_get, take, Some, IfSome, is_some};
 ghost use Rattle.std.specs.List.{list_all};
 ghost use Rattle.std.specs.Option.{option_map};
 ghost use Rattle.jv_code.specs.Insns.{instruction_of};
 ghost use Rattle.jv_stackmap.specs.Entries.{ReadFrame};
 ghost use Rattle.jv_meaning_typing.specs.Environment.{Environment, instruction_at};
 ghost use Rattle.jv_meaning_typing.specs.Typing.{is_new};
-ghost use Rattle.jv_verify_pass.specs.Inside.Parts.{HasCode, SharesBefore, SharesBelowBefore, is_made_by_new, frame_stands};
+ghost use Rattle.jv_verify_pass.specs.Inside.Parts.{HasCode, SharesBelowBefore, is_made_by_new, frame_stands};
 
 use jv_code::{Code, Insn, Starts};
 use jv_meaning_typing::instruction_at_is;
 use jv_stackmap::{Entries, FrameEntry, MapFrame, MapFrames};
-
-/// How many words of local entries a frame has at least that is looked for far before it.
-const MANY: u16 = 256;
-
-/// How far.
-const NEAR: usize = 64;
 
 /// The instruction that starts at an offset; `None` where none does.
 fn instruction_at<'a>(starts: &Starts<'_>, code: &Code<'a>, offset: u32) -> Option<Insn<&'a [u8]>>
@@ -109,27 +103,6 @@ fn are_made_by_new(starts: &Starts<'_>, code: &Code<'_>, mut entries: Entries<'_
     true
 }
 
-/// How many frames before one are looked at for its local entries, where it has many.
-fn near(map: &MapFrame<'_>) -> usize {
-    if map.local_words() < MANY { 1 } else { NEAR }
-}
-
-/// Whether the frame at a place has the local entries of one of so many before it.
-fn shares_before(frames: &MapFrames, place: usize, near: usize) -> bool
-    requires { place < length frames.now }
-    ensures { IsTrue result → SharesBefore frames.now place }
-{
-    let first = place.saturating_sub(near);
-    let mut before = place;
-    while before > first {
-        before -= 1;
-        if frames.share_locals(before, place) {
-            return true;
-        }
-    }
-    false
-}
-
 /// How many local entries the frame at a place has above those that it is known to share with the one before it, if it has fewer than all.
 fn above_before(frames: &MapFrames, place: usize, words: u16) -> Option<usize>
     requires { place < length frames.now }
@@ -141,7 +114,7 @@ fn above_before(frames: &MapFrames, place: usize, words: u16) -> Option<usize>
 }
 
 /// Whether what is not initialized in the local entries of the frame at a place was made by a `new`, where the frames before it
-/// stand: entries that one shortly before it has, too, are not gone through again.
+/// stand: entries that the one before it has, too, are not gone through again.
 fn locals_are_made(starts: &Starts<'_>, code: &Code<'_>, frames: &MapFrames, place: usize) -> bool
     requires starts { starts.now ≡ code.now.bytes.now }
     requires place { place < length frames.now }
@@ -149,9 +122,6 @@ fn locals_are_made(starts: &Starts<'_>, code: &Code<'_>, frames: &MapFrames, pla
         → (f : ReadFrame) → slice_get frames.now place ≡ Some f → result ≡ list_all (is_made_by_new env) f.locals }
 {
     let map = frames.frame_at(place);
-    if shares_before(frames, place, near(&map)) {
-        return true;
-    }
     match above_before(frames, place, map.local_words()) {
         Some(count) => last_are_made(starts, code, map.locals(), count),
         None => are_made_by_new(starts, code, map.locals()),

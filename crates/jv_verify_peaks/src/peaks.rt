@@ -39,13 +39,14 @@ fn same(alloc: Global, count: usize, value: u32) -> Result<Vec<u32>, AllocError>
     Ok(numbers)
 }
 
-/// Raises the number at a place to a value, where it is less.
+/// Raises the number at a place to a value, where there is one and it is less.
 fn raise_at(numbers: &mut [u32], place: usize, value: u32)
-    requires { place < length numbers.old }
     ensures raised { numbers.new ≡ set numbers.old place (max (get_or numbers.old place 0) value) }
     ensures same { length numbers.new ≡ length numbers.old }
 {
-    numbers[place] = numbers[place].max(value);
+    if place < numbers.len() {
+        numbers[place] = numbers[place].max(value);
+    }
 }
 
 impl Peaks {
@@ -59,9 +60,9 @@ impl Peaks {
     {
         Ok(Peaks {
             values: same(alloc, count, value)?,
-            by_16: same(alloc, count / 16 + 1, value)?,
-            by_256: same(alloc, count / 256 + 1, value)?,
-            by_4096: same(alloc, count / 4096 + 1, value)?,
+            by_16: same(alloc, count / 16, value)?,
+            by_256: same(alloc, count / 256, value)?,
+            by_4096: same(alloc, count / 4096, value)?,
         })
     }
 

@@ -1,11 +1,10 @@
 -- Parts of the rules on a method's tables.
 use Rattle.std.specs.Prelude.{◌≡◌, ◌<◌, ℕ, Bool, true, ◌&&◌, List, Option, Some, None, is_some, slice_get}
 use Rattle.std.specs.List.{list_all}
-use Rattle.std.specs.Option.{option_map}
 use Rattle.jv_stackmap.specs.declared.entry.FrameEntry.{FrameEntry}
 use Rattle.jv_stackmap.specs.declared.entry.FrameEntry.TheVariants as entries
 use Rattle.jv_stackmap.specs.declared.limits.Limits.{Limits}
-use Rattle.jv_stackmap.specs.Entries.{ReadFrame, SharesBelow, frames_placed, locals_in}
+use Rattle.jv_stackmap.specs.Entries.{ReadFrame, SharesBelow, frames_placed}
 use Rattle.jv_stackmap.specs.Frames.{PlacedFrame, Maps}
 use Rattle.jv_code.specs.Places.{IsCode}
 use Rattle.jv_meaning_typing.specs.Environment.{Environment, current_class, instruction_at}
@@ -32,11 +31,6 @@ is_made_by_new env _ = true
 abbrev pub frame_stands : Environment → ReadFrame → Bool
 frame_stands env f =
     is_some (instruction_at env f.offset) && (list_all (is_made_by_new env) f.locals && list_all (is_made_by_new env) f.stack)
-
--- the frame at a place has the local entries of one before it
-abbrev pub SharesBefore : List ReadFrame → ℕ → Type 0
-SharesBefore frames place =
-    (before : ℕ) × (before < place) × (option_map locals_in (slice_get frames before) ≡ option_map locals_in (slice_get frames place))
 
 -- the frame at a place has, below so many of its last local entries, those that one before it has below some
 abbrev pub SharesBelowBefore : List ReadFrame → ℕ → ℕ → Type 0

@@ -2,12 +2,8 @@ use Rattle.std.proofs.Common.{ap, ◌∙◌, take}
 use Rattle.std.specs.List.{list_all}
 use Rattle.jv_stackmap.specs.Entries.{ReadFrame}
 use Rattle.jv_verify_pass.specs.Inside.Parts.{is_made_by_new}
-use Rattle.jv_verify_pass.proofs.Shared.{made_before, made_below, one_there}
+use Rattle.jv_verify_pass.proofs.Shared.{made_below, one_there}
 use Rattle.jv_verify_pass.proofs.standing.locals_are_made.Goals as goal
-
-pub returns-then-shares_before : goal.returns-then-shares_before
-returns-then-shares_before c = λ env has before f at.
-    made_before env c.args.frames.now c.args.place f before (c.shares_before.ensures c.if-shares_before.true) at
 
 pub returns-in-Some : goal.returns-in-Some
 returns-in-Some c = λ env has before f at.
