@@ -9,8 +9,8 @@ use Rattle.std.specs.Result.{result_ok}
 use Rattle.std.proofs.lemmas.List.Elements.{All-map}
 use Rattle.jv_stackmap.specs.declared.entry.FrameEntry.{FrameEntry}
 use Rattle.jv_stackmap.specs.declared.nodes.KeptFrame.{KeptFrame}
-use Rattle.jv_stackmap.specs.Entries.{offset_of, locals_in}
-use Rattle.jv_stackmap.specs.Inside.Nodes.{chain, frame_in, kept_offset, RiseTo}
+use Rattle.jv_stackmap.specs.Entries.{offset_of}
+use Rattle.jv_stackmap.specs.Inside.Nodes.{frame_in, kept_offset, RiseTo}
 use Rattle.jv_stackmap.proofs.Rises.{IsSought, sought}
 
 abbrev any : KeptFrame
@@ -20,12 +20,6 @@ offset_at : (cs : List (List FrameEntry)) (fs : List KeptFrame) (i : ℕ) (d : K
 offset_at cs [] i d lt = absurd (omega arith)
 offset_at cs (f ∷ fs) zero d lt = refl
 offset_at cs (f ∷ fs) (suc i) d lt = offset_at cs fs i d (omega arith)
-
-pub locals_at : (cs : List (List FrameEntry)) (fs : List KeptFrame) (i : ℕ) (d : KeptFrame) → i < length fs → option_map locals_in
-    (slice_get (map (frame_in cs) fs) i) ≡ Some (chain cs (get_or fs i d).locals)
-locals_at cs [] i d lt = absurd (omega arith)
-locals_at cs (f ∷ fs) zero d lt = refl
-locals_at cs (f ∷ fs) (suc i) d lt = locals_at cs fs i d (omega arith)
 
 -- what a search by offset finds
 pub record Found (cs : List (List FrameEntry)) (fs : List KeptFrame) (k : ℕ) (o : Option ℕ) : Type 0 where

@@ -40,9 +40,6 @@ pub record ReadFrame : Type 0 where
 abbrev pub offset_of : ReadFrame → ℕ
 offset_of f = f.offset
 
-abbrev pub locals_in : ReadFrame → List FrameEntry
-locals_in f = f.locals
-
 -- two frames have the same local entries below so many of the last of each
 abbrev pub SharesBelow : ℕ × ℕ → Option ReadFrame → Option ReadFrame → Type 0
 SharesBelow above one other = option_map (λ f. drop above.0 f.locals) one ≡ option_map (λ f. drop above.1 f.locals) other

@@ -1,12 +1,12 @@
 //! The frames of a method (JVMS 4.7.4).
 
-ghost use Rattle.std.specs.Prelude.{◌≡◌, ◌≢◌, ◌<◌, List, [], length, map, slice_get, Some, IfOk, IfSome, IfNone, IsTrue, Err};
+ghost use Rattle.std.specs.Prelude.{◌≡◌, ◌≢◌, ◌<◌, List, [], length, map, slice_get, Some, IfOk, IfSome, IfNone, Err};
 ghost use Rattle.std.specs.List.{All};
 ghost use Rattle.std.specs.Option.{option_map};
 ghost use Rattle.jv_stackmap.specs.declared.fault.FrameFault.TheVariants.{BadFrames};
 ghost use Rattle.jv_stackmap.specs.Types.{FrameType};
 ghost use Rattle.jv_stackmap.specs.Frames.{PlacedFrame, Maps};
-ghost use Rattle.jv_stackmap.specs.Entries.{frames_placed, HaveWidths, HoldsKnown, HasItsWords, offset_of, locals_in, SharesBelow};
+ghost use Rattle.jv_stackmap.specs.Entries.{frames_placed, HaveWidths, HoldsKnown, HasItsWords, offset_of, SharesBelow};
 ghost use Rattle.jv_stackmap.specs.Inside.Nodes.{frame_in, AreRising};
 
 use crate::entries::MapFrame;
@@ -110,15 +110,6 @@ impl MapFrames {
         ensures { slice_get self.now place ≡ Some result }
     {
         MapFrame::of(&self.nodes, self.frames[place])
-    }
-
-    /// Whether two frames are known to have the same local entries, as one list.
-    pub fn share_locals(&self, place: usize, other: usize) -> bool
-        requires place { place < length self.now }
-        requires other { other < length self.now }
-        ensures { IsTrue result → option_map locals_in (slice_get self.now place) ≡ option_map locals_in (slice_get self.now other) }
-    {
-        self.frames[place].locals == self.frames[other].locals
     }
 
     /// How many local entries two frames have, from the last on, above those that they are known to share, where these are at most so
