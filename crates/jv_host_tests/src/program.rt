@@ -445,14 +445,33 @@ pub(crate) static REPORTS: [Row; 8] = [
 ];
 
 /// What a guest wrote goes to the output as it is, and the report with the errors.
-static RAW: [Row; 4] = [
+static RAW: [Row; 6] = [
+    Row {
+        words: "jvhost run --raw 1 hi",
+        input: b"",
+        good: 1,
+        status: 0,
+        out: ["Hi", ""],
+        err: Some(HI_TOLD),
+    },
+    // All of the input stands behind the guest's own before it runs, whatever pieces it comes in.
+    Row {
+        words: "jvhost run --raw 2 --quantum 10 --rounds 1 hi in",
+        input: b"AB",
+        good: 3,
+        status: 5,
+        out: ["ZAB", ""],
+        err: Some(
+            "guest 1 hi\n  Hi.class: Accepted\n  steps 6\n  throws 0\n  output 2: Hi\n  end Returned\nguest 2 in\n  P.class: Accepted\n  steps 10\n  throws 0\n  output 3: ZAB\n  end Running\n",
+        ),
+    },
     Row {
         words: "jvhost run --raw 1 hi",
         input: b"",
         good: 0,
-        status: 0,
-        out: ["Hi", ""],
-        err: Some(HI_TOLD),
+        status: 3,
+        out: ["", ""],
+        err: Some("jvhost: standard input: cannot be read\n"),
     },
     Row {
         words: "jvhost run --raw 1 --stdin 1 --quantum 4 --rounds 2 p",

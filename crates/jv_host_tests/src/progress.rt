@@ -143,6 +143,16 @@ fn nothing_is_told_where_nobody_asks(rt: HostRuntime) {
 }
 
 #[test]
+fn the_time_alone_is_told_at_a_terminal(rt: HostRuntime) {
+    let line = "jvhost run --time --quantum 2 --rounds 3 p hi";
+    let passes = match RandomState::new(&rt) {
+        Ok(state) => tells(rt.alloc(), state, line, true, 5, b"processor 7 ms\n"),
+        Err(_) => false,
+    };
+    assert!(rt; passes);
+}
+
+#[test]
 fn the_time_is_told_where_there_is_no_terminal(rt: HostRuntime) {
     let line = "jvhost run --time --quantum 2 --rounds 3 p hi";
     let passes = match RandomState::new(&rt) {

@@ -23,7 +23,7 @@ IsAsked (CommandLine error) = (kind_of error ≡ kinds.DisplayHelp) ⊎ (kind_of
 IsAsked (Run failure) = ⊥
 IsAsked Output = ⊥
 
--- that of a wrong command line or of a failure, and 6 where the report was not written whole
+-- that of a wrong command line or of a failure, and 6 where what goes to the output was not written whole
 abbrev pub HasStatus : Stop → ℕ → Type 0
 HasStatus (CommandLine error) status = HasWordStatus (kind_of error) status
 HasStatus (Run failure) status = status ≡ failure_status failure

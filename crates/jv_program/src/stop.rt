@@ -12,14 +12,14 @@ use clap::error::ErrorKind;
 use jv_program_base::{Failure, Outcome};
 use std::alloc::AllocError;
 
-/// What ends the program without a report, or without the whole of it on standard output.
+/// What ends the program without a report, or without the whole of what goes to standard output.
 #[derive(Drop)]
 pub enum Stop {
     /// The words of the command line are wrong, or ask for help.
     CommandLine(clap::Error),
     /// There is no report.
     Run(Failure),
-    /// Standard output failed, and a part of the report may be on it.
+    /// Standard output failed, and a part of what goes there may be on it.
     Output,
 }
 

@@ -21,7 +21,7 @@ pub enum Failure {
     FeedTooLong,
     /// There are more folders than the host takes guests.
     TooManyFolders,
-    /// There is no guest with the number of the one that is to be fed.
+    /// There is no guest with the number of one that is to be fed, or whose output is wanted as it is.
     NoGuest,
     /// The host's memory was refused.
     HostMemory,

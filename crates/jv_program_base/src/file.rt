@@ -29,9 +29,15 @@ fn read_piece<F: Read>(file: &mut F, bytes: &mut Vec<u8>, room: usize) -> io::Re
 
 /// Reads to the end, or one byte past the limit where there are more bytes than that. There are at
 /// most as many reads as the limit and two.
+///
+/// # Errors
+///
+/// Those of the reads, of the kind `OutOfMemory` where there was no memory for what was read.
 pub fn read_past_limit<F: Read>(alloc: Global, file: &mut F, limit: usize) -> io::Result<Vec<u8>>
     requires { limit + 2 < 2 ^ 64 }
     ensures most { IfOk result (λ bytes. vec_len bytes ≤ limit + 1) }
+    ensures read { IfOk result (λ bytes. Consumes (F.remaining file.old) (F.remaining file.new) bytes.items) }
+    ensures end { IfOk result (λ bytes. vec_len bytes ≤ limit → IsAtEnd (F.remaining file.new)) }
     ensures front { IfOk result (λ bytes.
         IfSome (F.remaining file.old) (λ all. bytes.items ≡ take (limit + 1) all)) }
 {

@@ -15,6 +15,7 @@ mod verdict;
 
 pub use escape::Escaped;
 pub use failure::Failure;
+pub use file::read_past_limit;
 pub use folder::{Folder, NamedFile, read_class, read_folder};
 pub use folders::{Folders, SystemFolders};
 pub use hashing::hashing_state;

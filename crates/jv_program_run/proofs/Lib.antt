@@ -8,6 +8,7 @@ pub mod NotRun
 pub mod Plain
 pub mod Played
 pub mod Read
+pub mod ReadBehind
 pub mod Reports
 pub mod Turns
 pub mod WhatWasRead

@@ -1,7 +1,8 @@
 -- What is said of folders that are read by their words.
-use Rattle.std.specs.Prelude.{◌≡◌, ℕ, ◌<◌, ◌≤◌, Bool, false, true, ◌||◌, List, Option, Some, length, map, slice_get}
+use Rattle.std.specs.Prelude.{◌≡◌, ◌≢◌, ◌⊎◌, ℕ, ◌<◌, ◌≤◌, ◌-◌, Bool, false, true, ◌||◌, List, ◌++◌, Option, Some, None, length, map, set, slice_get}
+use Rattle.std.specs.Io.KnownBytes.{Consumes, IsAtEnd}
 use Rattle.jv_program_base.specs.declared.failure.Failure.{Failure}
-use Rattle.jv_program_base.specs.declared.failure.Failure.TheVariants.{Unreadable, TooManyFolders, NoGuest, OutOfMemory}
+use Rattle.jv_program_base.specs.declared.failure.Failure.TheVariants.{Unreadable, TooManyFolders, NoGuest, OutOfMemory, StandardInput}
 use Rattle.jv_program_base.specs.declared.folder.Folder.{Folder}
 use Rattle.jv_program_base.specs.declared.outcome.Outcome.{Outcome}
 use Rattle.jv_program_run.specs.declared.settings.RunSettings.{RunSettings}
@@ -9,7 +10,7 @@ use Rattle.jv_program_base.specs.Disk.{Disk}
 use Rattle.jv_program_base.specs.Failure.{IsOneNotRead}
 use Rattle.jv_program_run.specs.Feeding.{is_no_guest}
 use Rattle.jv_program_base.specs.Folder.{IsFolderRead}
-use Rattle.jv_program_run.specs.Guests.{named_guest}
+use Rattle.jv_program_run.specs.Guests.{NamedGuest, named_guest}
 use Rattle.jv_program_run.specs.Outcome.{IsGuestsFailure, IsRunOutcome}
 
 -- there is one folder for each word, which was read by it
@@ -27,30 +28,66 @@ lacks_guest s guests = is_no_guest s.stdin guests || is_no_guest s.raw guests
 abbrev pub AreTaken : RunSettings → (words : List (List ℕ)) → Type 0
 AreTaken s words = (length words ≤ 64) × (lacks_guest s (length words) ≡ false)
 
--- The folders of the words were read, and the report is on their guests.
+-- ---- a guest whose input is the standard input
+
+-- the number of the guest that has all of it before it runs: that whose output is wanted as it is, where none is fed
+abbrev pub reads_all : RunSettings → Option ℕ
+reads_all s = elim s.stdin [ Some number ↦ None | None ↦ s.raw ]
+
+abbrev pub with_input : NamedGuest → List ℕ → NamedGuest
+with_input own bytes = record own { guest = record own.guest { input = own.guest.input ++ bytes } }
+
+-- Behind its own input a guest has all that there was to read, or one byte more than the limit of 16,777,216 where there was more.
+pub record IsReadBehind (own guest : NamedGuest) (before after : Option (List ℕ)) : Type 0 where
+  pub bytes : List ℕ
+  pub read : Consumes before after bytes
+  pub most : length bytes ≤ 16777217
+  pub whole : length bytes ≤ 16777216 → IsAtEnd after
+  pub joined : guest ≡ with_input own bytes
+
+-- Of guests the one with this number has it, and the others are as they were; without a number nothing was read.
+abbrev pub AreReady : Option ℕ → (own guests : List NamedGuest) → (before after : Option (List ℕ)) → Type 0
+AreReady None own guests before after = (guests ≡ own) × (after ≡ before)
+AreReady (Some number) own guests before after =
+    (one : NamedGuest) × (found : NamedGuest) × (slice_get own (number - 1) ≡ Some one) × IsReadBehind one found before after
+    × (guests ≡ set own (number - 1) found)
+
+-- why it isn't there: a read failed, or the program had no memory for what was read
+abbrev pub IsInputFailure : Failure → Type 0
+IsInputFailure failure = (failure ≡ StandardInput) ⊎ (failure ≡ OutOfMemory)
+
+-- The folders of the words were read, and the input of the guest that has all of it, and the report is on these guests.
 pub record IsRunAs (disk : Option Disk) (s : RunSettings) (words : List (List ℕ)) (before after : Option (List ℕ)) (outcome : Outcome)
     : Type 0 where
   pub taken : AreTaken s words
   pub folders : List Folder
   pub read : AreFoldersOf disk words folders
-  pub ran : IsRunOutcome s (map named_guest folders) before after outcome
+  pub guests : List NamedGuest
+  pub middle : Option (List ℕ)
+  pub ready : AreReady (reads_all s) (map named_guest folders) guests before middle
+  pub ran : IsRunOutcome s guests middle after outcome
 
 -- ---- words of which there is no report
 
--- the folders of the words were read, and this is why there is no report on their guests
+-- the folders of the words were read, and the input of the guest that has all of it, and this is why there is no report on these guests
 pub record IsFailureOf (disk : Option Disk) (s : RunSettings) (words : List (List ℕ)) (before after : Option (List ℕ)) (failure : Failure)
     : Type 0 where
   pub taken : AreTaken s words
   pub folders : List Folder
   pub read : AreFoldersOf disk words folders
-  pub failed : IsGuestsFailure s (map named_guest folders) before after failure
+  pub guests : List NamedGuest
+  pub middle : Option (List ℕ)
+  pub ready : AreReady (reads_all s) (map named_guest folders) guests before middle
+  pub failed : IsGuestsFailure s guests middle after failure
 
 -- Why there is no report on the folders of these words: there are more than 64; or none of a guest that the settings name; or a folder,
--- or a file in it, can't be read; all this before anything is read of the input. Else it lies with the guests. Or the program's memory was
--- refused, on the way to any of these.
+-- or a file in it, can't be read; all this before anything is read of the input. Or the input can't be read for the guest that has all of
+-- it. Else it lies with the guests. Or the program's memory was refused, on the way to any of these.
 abbrev pub IsRunFailure : Option Disk → RunSettings → (words : List (List ℕ)) → (before after : Option (List ℕ)) → Failure → Type 0
 IsRunFailure disk s words before after TooManyFolders = (64 < length words) × (after ≡ before)
 IsRunFailure disk s words before after NoGuest = (length words ≤ 64) × (lacks_guest s (length words) ≡ true) × (after ≡ before)
 IsRunFailure disk s words before after (Unreadable name) = AreTaken s words × IsOneNotRead words (Unreadable name) × (after ≡ before)
+IsRunFailure disk s words before after StandardInput =
+    (AreTaken s words × (reads_all s ≢ None)) ⊎ IsFailureOf disk s words before after StandardInput
 IsRunFailure disk s words before after OutOfMemory = AreTaken s words
 IsRunFailure disk s words before after failure = IsFailureOf disk s words before after failure

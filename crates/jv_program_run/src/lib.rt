@@ -3,6 +3,7 @@
 
 mod brought;
 mod feeding;
+mod input;
 mod json;
 mod named;
 mod play;

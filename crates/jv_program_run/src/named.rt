@@ -7,6 +7,7 @@ ghost use Rattle.jv_program_run.specs.Guests.{named_guest};
 ghost use Rattle.jv_program_run.specs.Named.{AreFoldersOf, AreTaken, IsRunAs, IsRunFailure, lacks_guest};
 ghost use Rattle.jv_program_run.specs.Outcome.{IsGuestsFailure, IsRunOutcome};
 
+use crate::input::read_input;
 use crate::running::run_folders;
 use crate::settings::RunSettings;
 use jv_host::Watch;
@@ -76,13 +77,14 @@ fn run_read<I: Read, W: Watch>(
     run_folders(alloc, state, &system, settings, folders, input, watch)
 }
 
-/// Reads the folders of words, in their order, and runs their guests in one host. A watch sees the rounds of their turns.
+/// Reads the folders of words, in their order, and runs their guests in one host. Where the output of a guest is wanted as it is, and none
+/// is fed, all of the input is read before that, and stands behind this guest's own. A watch sees the rounds of their turns.
 ///
 /// # Errors
 ///
 /// `TooManyFolders` where there are more than 64 words, and `NoGuest` where none is that of a guest that the settings name; no folder
-/// is then read. `Unreadable` with the name of the first file or folder that can't be read; and else what `run_folders` says of the
-/// folders.
+/// is then read. `Unreadable` with the name of the first file or folder that can't be read, and `StandardInput` where the input can't be;
+/// and else what `run_folders` says of the folders.
 pub fn run_named<F: Folders, I: Read, W: Watch>(
     alloc: Global,
     state: RandomState,
@@ -104,6 +106,7 @@ pub fn run_named<F: Folders, I: Read, W: Watch>(
     if lacks_guest(settings, words.len()) {
         return Err(Failure::NoGuest);
     }
-    let folders = read_folders(alloc, folders, words)?;
-    run_read(alloc, state, settings, folders.as_slice(), input, watch)
+    let mut read = read_folders(alloc, folders, words)?;
+    read_input(alloc, settings, read.as_mut_slice(), input)?;
+    run_read(alloc, state, settings, read.as_slice(), input, watch)
 }

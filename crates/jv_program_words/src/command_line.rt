@@ -128,7 +128,7 @@ fn run_line<'a>(alloc: Global) -> Result<Command<'a>, AllocError>
             "K",
             1,
             64,
-            "The guest whose output is written as it is; the report goes to standard error",
+            "The guest that has standard input whole, and whose output is written as it is",
         ),
         json(alloc),
         flag(

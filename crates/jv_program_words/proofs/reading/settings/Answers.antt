@@ -1,6 +1,6 @@
 use Rattle.std.proofs.Common.{◌≡◌, ◌∙◌, ℕ, [], true, List, Some, ap, inl, inr, map, refl, string_bytes, subst, sym}
 use Rattle.std.specs.Prelude.{option_and_then, option_map}
-use Rattle.clap.specs.Words.{App, HasKind, HasMatchesOf, app_of, fault_of, found_of, is_simple, is_simple_and_free, rows_of}
+use Rattle.clap.specs.Words.{App, HasKind, HasMatchesOf, fault_of, found_of, is_simple, is_simple_and_free, rows_of}
 use Rattle.clap.specs.Simple.{subcommand_rows_of}
 use Rattle.clap.specs.Walk.{Row}
 use Rattle.clap.specs.declared.parser.matches.ArgMatches.{ArgMatches}
