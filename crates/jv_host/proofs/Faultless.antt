@@ -1,11 +1,11 @@
 -- A guest whose files were judged never meets a fault.
-use Rattle.std.proofs.Common.{◌≡◌, Ok, refl}
+use Rattle.std.proofs.Common.{◌≡◌, [], Ok, refl}
 use Rattle.std.specs.Prelude.{Err, IsOk, IsErr}
 use Rattle.jv_meaning_machine.specs.Faults.{OrFault}
 use Rattle.jv_meaning_machine.specs.State.{State}
 use Rattle.jv_meaning_machine.specs.Alone.{Judged, IsJudged, alone}
 use Rattle.jv_meaning_machine.specs.Observation.{observation}
-use Rattle.jv_sound.specs.Law.{NeverFaults as JudgedNeverFaults}
+use Rattle.jv_sound.specs.Law.{NeverFaults as JudgedNeverFaults, NoLibraryStands}
 use Rattle.jv_host.specs.Host.{Admission}
 use Rattle.jv_host.specs.Faultless.{NeverFaults}
 
@@ -17,13 +17,16 @@ not_both : (run : OrFault State) → IsOk run → IsErr run → ⊥
 not_both (Ok s) h k = absurd cc
 not_both (Err fault) h k = absurd cc
 
-pub never_faults : JudgedNeverFaults → (a : Admission) (judged : Judged) → IsJudged a.guest.files judged → NeverFaults a
-never_faults sound a judged right = record {
+pub never_faults :
+    JudgedNeverFaults → NoLibraryStands → (a : Admission) (judged : Judged) → a.guest.library ≡ [] → IsJudged a.guest.library a.guest.files judged
+    → NeverFaults a
+never_faults sound stand a judged none right = record {
   shows = λ feeds n.
-      let ran = state_of (alone judged a.guest a.budget feeds n) (sound judged a.guest a.budget feeds n right) in (
+      let ran = state_of (alone judged a.guest a.budget feeds n) (sound judged a.guest a.budget feeds n right (stand judged a.guest.library a.guest.files none right)) in (
         observation judged.verdicts n ran.0,
         record { judged = judged; right = right; state = ran.0; ran = ran.1; shown = refl },
       );
   faultless = λ feeds n fault.
-      not_both (alone fault.judged a.guest a.budget feeds n) (sound fault.judged a.guest a.budget feeds n fault.right) fault.fault;
+      not_both (alone fault.judged a.guest a.budget feeds n) (sound fault.judged a.guest a.budget feeds n fault.right
+      (stand fault.judged a.guest.library a.guest.files none fault.right)) fault.fault;
 }

@@ -39,7 +39,7 @@ earlier judged g b feeds n (suc more) t e =
 
 -- and where it takes steps now, it took steps then
 pub running_before :
-    EndedGuestStays → (judged : Judged) (g : GuestFiles) (b : Budget) (feeds : List Feed) (n more : ℕ) (s t : State) → IsJudged g.files judged
+    EndedGuestStays → (judged : Judged) (g : GuestFiles) (b : Budget) (feeds : List Feed) (n more : ℕ) (s t : State) → IsJudged g.library g.files judged
     → alone judged g b feeds n ≡ Ok s → alone judged g b feeds (n + more) ≡ Ok t → t.control.end ≡ Running → s.control.end ≡ Running
 running_before stays judged g b feeds n more s t right e f running = by_end s.control.end refl
   where
@@ -81,7 +81,7 @@ module _ (one : OneJudged) (stays : EndedGuestStays) (old : Admitted) (after : G
     ran : alone h.stands.judged files budget feeds (first + k) ≡ Ok w.stands.state
     ran =
         subst (λ (j : Judged). alone j files budget feeds (first + k) ≡ Ok w.stands.state)
-        (one files.files w.stands.judged h.stands.judged w.stands.right h.stands.right) w.stands.ran
+        (one files.library files.files w.stands.judged h.stands.judged w.stands.right h.stands.right) w.stands.ran
 
     shows_at : (n : ℕ) (s : State) → alone h.stands.judged files budget feeds n ≡ Ok s → Shows files budget feeds n (observation h.stands.judged.verdicts n s)
     shows_at n s e = record { judged = h.stands.judged; right = h.stands.right; state = s; ran = e; shown = refl }

@@ -16,7 +16,7 @@ use jv_interp::{Budget, Observation};
 use jv_limits::{AdmitFault, FeedFault, NoGuest, TurnFault};
 use jv_loader::SystemFiles;
 use jv_meaning_typing::Verdict;
-use jv_sound::never_faults;
+use jv_sound::{never_faults, no_library_stands};
 use jv_store::Store;
 use std::alloc::Global;
 use std::hash::RandomState;
@@ -188,6 +188,7 @@ impl<'a, S: Store> Host<'a, S> {
         ensures { NoGuestFaults self.now }
     {
         never_faults();
+        no_library_stands();
         let _known = &self.guests;
     }
 

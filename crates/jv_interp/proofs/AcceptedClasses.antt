@@ -12,8 +12,9 @@ use Rattle.jv_meaning_world.specs.FileContent.{FileContent}
 use Rattle.jv_meaning_world.specs.declared.content.Content.TheVariants.{OtherVersion, NoClassFile, MoreThanProfile, Holds}
 use Rattle.jv_meaning_world.specs.declared.verdict.LoadVerdict.{LoadVerdict}
 use Rattle.jv_meaning_world.specs.declared.verdict.LoadVerdict.TheVariants.{Version, Format, Unsupported, Reserved, Duplicate, Circular, NoSuper, WrongKind, NoAccess, FinalBroken}
+use Rattle.jv_meaning_world.specs.Library.{with_library}
 use Rattle.jv_meaning_world.specs.System.Classes.{system_classes}
-use Rattle.jv_meaning_world.specs.World.{Loaded, World, loaded, is_reserved, has_class, with_class_of, joined_all, classes_in, world_of}
+use Rattle.jv_meaning_world.specs.World.{HostClasses, Loaded, World, loaded, is_reserved, has_class, with_class_of, joined_all, classes_in, world_of}
 use Rattle.jv_meaning_world.specs.Above.{is_circular, superclasses}
 use Rattle.jv_meaning_world.specs.Verdicts.{verdict_of_class, verdict_behind, verdict_at, each_super, is_loadable, have_right_kind, can_name_supers, has_final_super, breaks_final}
 use Rattle.jv_meaning_world.specs.Numbers.{IsNumbered, number_named}
@@ -22,6 +23,7 @@ use Rattle.jv_meaning_typing.specs.declared.verdict.Verdict.TheVariants as verdi
 use Rattle.jv_meaning_typing.specs.Judgement.{IsVerdictOfMethods, IsVerdictBehind, IsVerdictOfContent, IsVerdictOfFile}
 use Rattle.jv_meaning_machine.specs.State.{is_class_accepted}
 use Rattle.jv_meaning_machine.specs.Alone.{Judged, IsJudged, accepted_in, accepted_names}
+use Rattle.jv_sound.proofs.NoLibrary.{accepted_without_library, verdicts_without_library, world_without_library}
 use Rattle.jv_interp.specs.VerifiedClasses.{class_accepted, accepted_by, TellsEach}
 
 -- ---- the classes of files, each with whether it was accepted
@@ -56,18 +58,18 @@ names_in row = name_if row.0 row.1
 
 -- ---- one file
 
-abbrev IsRight : List Class → World → List FileContent → FileContent → Verdict → Type 0
-IsRight system world earlier file verdict = IsVerdictOfContent world (verdict_behind system earlier world file) (Some file) verdict
+abbrev IsRight : HostClasses → World → List FileContent → FileContent → Verdict → Type 0
+IsRight host world earlier file verdict = IsVerdictOfContent world (verdict_behind host earlier world file) (Some file) verdict
 
 refused_row : (v : Verdict) (why : LoadVerdict) (none : class_accepted (verdicts.Refused why) ≡ None) → v ≡ verdicts.Refused why → class_accepted v ≡ None
 refused_row v why none e = ap class_accepted e ∙ none
 
-flag_of_file : (system : List Class) (world : World) (earlier : List FileContent) (file : FileContent) (v : Verdict)
-    → IsRight system world earlier file v → filter_map class_accepted (v ∷ []) ≡ map flag_in (row_in file v)
-flag_of_file system world earlier OtherVersion v e = rw (refused_row v Version refl e) refl
-flag_of_file system world earlier NoClassFile v e = rw (refused_row v Format refl e) refl
-flag_of_file system world earlier MoreThanProfile v e = rw (refused_row v Unsupported refl e) refl
-flag_of_file system world earlier (Holds class) v e = by_flag (class_accepted v) refl
+flag_of_file : (host : HostClasses) (world : World) (earlier : List FileContent) (file : FileContent) (v : Verdict)
+    → IsRight host world earlier file v → filter_map class_accepted (v ∷ []) ≡ map flag_in (row_in file v)
+flag_of_file host world earlier OtherVersion v e = rw (refused_row v Version refl e) refl
+flag_of_file host world earlier NoClassFile v e = rw (refused_row v Format refl e) refl
+flag_of_file host world earlier MoreThanProfile v e = rw (refused_row v Unsupported refl e) refl
+flag_of_file host world earlier (Holds class) v e = by_flag (class_accepted v) refl
   where
     by_flag : (o : Option Bool) → class_accepted v ≡ o → filter_map class_accepted (v ∷ []) ≡ map flag_in (row_of class o)
     by_flag None f = rw f refl
@@ -114,38 +116,40 @@ own_row world l class v e =
     by_tests false false false false true h = by_row (class_accepted v) false (ap class_accepted h)
     by_tests false false false false false h = by_methods v h
 
-class_of_file : (system : List Class) (world : World) (earlier : List FileContent) (file : FileContent) (v : Verdict)
-    → IsRight system world earlier file v → with_class_of (classes_in earlier) file ≡ classes_in earlier ++ map class_in (row_in file v)
-class_of_file system world earlier OtherVersion v e = sym (append-nil (classes_in earlier))
-class_of_file system world earlier NoClassFile v e = sym (append-nil (classes_in earlier))
-class_of_file system world earlier MoreThanProfile v e = sym (append-nil (classes_in earlier))
-class_of_file system world earlier (Holds class) v e = by_tests (is_reserved class.name) (has_class (classes_in earlier) class.name) e
+class_of_file : (host : HostClasses) (world : World) (earlier : List FileContent) (file : FileContent) (v : Verdict)
+    → IsRight host world earlier file v → with_class_of (classes_in host earlier) file ≡ classes_in host earlier ++ map class_in (row_in file v)
+class_of_file host world earlier OtherVersion v e = sym (append-nil (classes_in host earlier))
+class_of_file host world earlier NoClassFile v e = sym (append-nil (classes_in host earlier))
+class_of_file host world earlier MoreThanProfile v e = sym (append-nil (classes_in host earlier))
+class_of_file host world earlier (Holds class) v e = by_tests (is_reserved class.name) (has_class (classes_in host earlier) class.name) e
   where
-    none : (why : LoadVerdict) → class_accepted (verdicts.Refused why) ≡ None → v ≡ verdicts.Refused why → classes_in earlier ≡ classes_in earlier ++ map class_in (row_of class (class_accepted v))
-    none why is f = rw (refused_row v why is f) (sym (append-nil (classes_in earlier)))
+    none :
+        (why : LoadVerdict) → class_accepted (verdicts.Refused why) ≡ None → v ≡ verdicts.Refused why
+        → classes_in host earlier ≡ classes_in host earlier ++ map class_in (row_of class (class_accepted v))
+    none why is f = rw (refused_row v why is f) (sym (append-nil (classes_in host earlier)))
 
     by_tests :
         (r h : Bool) → IsVerdictBehind world (loaded false class) (cond r (Some Reserved) (cond h (Some Duplicate) (verdict_of_class world (loaded false class)))) v
-        → cond (r || h) (classes_in earlier) (classes_in earlier ++ class ∷ []) ≡ classes_in earlier ++ map class_in (row_of class (class_accepted v))
+        → cond (r || h) (classes_in host earlier) (classes_in host earlier ++ class ∷ []) ≡ classes_in host earlier ++ map class_in (row_of class (class_accepted v))
     by_tests true h f = none Reserved refl f
     by_tests false true f = none Duplicate refl f
-    by_tests false false f = ap (λ (cs : List Class). classes_in earlier ++ cs) (sym (own_row world (loaded false class) class v f))
+    by_tests false false f = ap (λ (cs : List Class). classes_in host earlier ++ cs) (sym (own_row world (loaded false class) class v f))
 
 -- ---- all files
 
-abbrev AreRight : List Class → World → List FileContent → List FileContent → List Verdict → Type 0
-AreRight system world earlier [] [] = ⊤
-AreRight system world earlier (file ∷ files) (verdict ∷ more) = IsRight system world earlier file verdict × AreRight system world (earlier ++ file ∷ []) files more
-AreRight system world earlier _ _ = ⊥
+abbrev AreRight : HostClasses → World → List FileContent → List FileContent → List Verdict → Type 0
+AreRight host world earlier [] [] = ⊤
+AreRight host world earlier (file ∷ files) (verdict ∷ more) = IsRight host world earlier file verdict × AreRight host world (earlier ++ file ∷ []) files more
+AreRight host world earlier _ _ = ⊥
 
-flags_are : (system : List Class) (world : World) (earlier files : List FileContent) (all : List Verdict)
-    → AreRight system world earlier files all → filter_map class_accepted all ≡ map flag_in (rows files all)
-flags_are system world earlier [] [] h = refl
-flags_are system world earlier [] (v ∷ all) h = absurd h
-flags_are system world earlier (f ∷ files) [] h = absurd h
-flags_are system world earlier (f ∷ files) (v ∷ all) h =
-    first_flag (class_accepted v) ∙ ap (λ (bs : List Bool). bs ++ filter_map class_accepted all) (flag_of_file system world earlier f v h.0)
-    ∙ ap (λ (bs : List Bool). map flag_in (row_in f v) ++ bs) (flags_are system world (earlier ++ f ∷ []) files all h.1)
+flags_are : (host : HostClasses) (world : World) (earlier files : List FileContent) (all : List Verdict)
+    → AreRight host world earlier files all → filter_map class_accepted all ≡ map flag_in (rows files all)
+flags_are host world earlier [] [] h = refl
+flags_are host world earlier [] (v ∷ all) h = absurd h
+flags_are host world earlier (f ∷ files) [] h = absurd h
+flags_are host world earlier (f ∷ files) (v ∷ all) h =
+    first_flag (class_accepted v) ∙ ap (λ (bs : List Bool). bs ++ filter_map class_accepted all) (flag_of_file host world earlier f v h.0)
+    ∙ ap (λ (bs : List Bool). map flag_in (row_in f v) ++ bs) (flags_are host world (earlier ++ f ∷ []) files all h.1)
     ∙ sym (map-append flag_in (row_in f v) (rows files all))
   where
     first_flag : (o : Option Bool) → cons_option o (filter_map class_accepted all) ≡ cons_option o [] ++ filter_map class_accepted all
@@ -164,18 +168,18 @@ joined_both : (classes : List Class) (xs ys : List FileContent) → joined_all c
 joined_both classes [] ys = refl
 joined_both classes (x ∷ xs) ys = joined_both (with_class_of classes x) xs ys
 
-classes_are : (system : List Class) (world : World) (earlier files : List FileContent) (all : List Verdict)
-    → AreRight system world earlier files all → joined_all (classes_in earlier) files ≡ classes_in earlier ++ map class_in (rows files all)
-classes_are system world earlier [] [] h = sym (append-nil (classes_in earlier))
-classes_are system world earlier [] (v ∷ all) h = absurd h
-classes_are system world earlier (f ∷ files) [] h = absurd h
-classes_are system world earlier (f ∷ files) (v ∷ all) h =
-    let next : classes_in (earlier ++ f ∷ []) ≡ with_class_of (classes_in earlier) f = joined_both [] earlier (f ∷ []) in
+classes_are : (host : HostClasses) (world : World) (earlier files : List FileContent) (all : List Verdict)
+    → AreRight host world earlier files all → joined_all (classes_in host earlier) files ≡ classes_in host earlier ++ map class_in (rows files all)
+classes_are host world earlier [] [] h = sym (append-nil (classes_in host earlier))
+classes_are host world earlier [] (v ∷ all) h = absurd h
+classes_are host world earlier (f ∷ files) [] h = absurd h
+classes_are host world earlier (f ∷ files) (v ∷ all) h =
+    let next : classes_in host (earlier ++ f ∷ []) ≡ with_class_of (classes_in host earlier) f = joined_both host.front earlier (f ∷ []) in
     ap (λ (cs : List Class). joined_all cs files) (sym next)
-    ∙ classes_are system world (earlier ++ f ∷ []) files all h.1
-    ∙ ap (λ (cs : List Class). cs ++ map class_in (rows files all)) (next ∙ class_of_file system world earlier f v h.0)
-    ∙ append_assoc (classes_in earlier) (map class_in (row_in f v)) (map class_in (rows files all))
-    ∙ ap (λ (cs : List Class). classes_in earlier ++ cs) (sym (map-append class_in (row_in f v) (rows files all)))
+    ∙ classes_are host world (earlier ++ f ∷ []) files all h.1
+    ∙ ap (λ (cs : List Class). cs ++ map class_in (rows files all)) (next ∙ class_of_file host world earlier f v h.0)
+    ∙ append_assoc (classes_in host earlier) (map class_in (row_in f v)) (map class_in (rows files all))
+    ∙ ap (λ (cs : List Class). classes_in host earlier ++ cs) (sym (map-append class_in (row_in f v) (rows files all)))
 
 at_seam : (earlier files : List FileContent) (f : FileContent) → slice_get (earlier ++ f ∷ files) (length earlier) ≡ Some f
 at_seam [] files f = refl
@@ -186,13 +190,13 @@ to_seam [] files = refl
 to_seam (x ∷ earlier) files = ap (λ (xs : List FileContent). x ∷ xs) (to_seam earlier files)
 
 are_right :
-    (system : List Class) (contents earlier files : List FileContent) (all : List Verdict) → contents ≡ earlier ++ files → length all ≡ length files
-    → ((place : ℕ) (v : Verdict) → slice_get all place ≡ Some v → IsVerdictOfFile system contents (length earlier + place) v)
-    → AreRight system (world_of system contents) earlier files all
-are_right system contents earlier [] [] is count each = tt
-are_right system contents earlier [] (v ∷ all) is count each = absurd cc
-are_right system contents earlier (f ∷ files) [] is count each = absurd cc
-are_right system contents earlier (f ∷ files) (v ∷ all) is count each = (here, are_right system contents (earlier ++ f ∷ []) files all longer fewer next)
+    (host : HostClasses) (contents earlier files : List FileContent) (all : List Verdict) → contents ≡ earlier ++ files → length all ≡ length files
+    → ((place : ℕ) (v : Verdict) → slice_get all place ≡ Some v → IsVerdictOfFile host contents (length earlier + place) v)
+    → AreRight host (world_of host contents) earlier files all
+are_right host contents earlier [] [] is count each = tt
+are_right host contents earlier [] (v ∷ all) is count each = absurd cc
+are_right host contents earlier (f ∷ files) [] is count each = absurd cc
+are_right host contents earlier (f ∷ files) (v ∷ all) is count each = (here, are_right host contents (earlier ++ f ∷ []) files all longer fewer next)
   where
     none_more : length earlier + 0 ≡ length earlier
     none_more = omega arith
@@ -205,10 +209,10 @@ are_right system contents earlier (f ∷ files) (v ∷ all) is count each = (her
         ap (λ (n : ℕ). take n contents) none_more ∙ ap (λ (fs : List FileContent). take (length earlier) fs) is
         ∙ to_seam earlier (f ∷ files)
 
-    here : IsRight system (world_of system contents) earlier f v
+    here : IsRight host (world_of host contents) earlier f v
     here =
-        subst (λ (fs : List FileContent). IsVerdictOfContent (world_of system contents) (verdict_behind system fs (world_of system contents) f) (Some f) v) before
-        (subst (λ (o : Option FileContent). IsVerdictOfContent (world_of system contents) (verdict_at system contents (length earlier + 0) o) o v) at (each 0 v refl))
+        subst (λ (fs : List FileContent). IsVerdictOfContent (world_of host contents) (verdict_behind host fs (world_of host contents) f) (Some f) v) before
+        (subst (λ (o : Option FileContent). IsVerdictOfContent (world_of host contents) (verdict_at host contents (length earlier + 0) o) o v) at (each 0 v refl))
 
     longer : contents ≡ (earlier ++ f ∷ []) ++ files
     longer = is ∙ sym (append_assoc earlier (f ∷ []) files)
@@ -216,11 +220,11 @@ are_right system contents earlier (f ∷ files) (v ∷ all) is count each = (her
     fewer : length all ≡ length files
     fewer = omega (arith, count)
 
-    next : (place : ℕ) (w : Verdict) → slice_get all place ≡ Some w → IsVerdictOfFile system contents (length (earlier ++ f ∷ []) + place) w
+    next : (place : ℕ) (w : Verdict) → slice_get all place ≡ Some w → IsVerdictOfFile host contents (length (earlier ++ f ∷ []) + place) w
     next place w e =
         let size = length-append earlier (f ∷ []) in
         let same : length earlier + suc place ≡ length (earlier ++ f ∷ []) + place = omega (arith, size) in
-        subst (λ (n : ℕ). IsVerdictOfFile system contents n w) same (each (suc place) w e)
+        subst (λ (n : ℕ). IsVerdictOfFile host contents n w) same (each (suc place) w e)
 
 -- ---- the classes by their numbers
 
@@ -366,34 +370,36 @@ guests_told all unlike n l e =
     ∙ ap (λ (l : Loaded). is_accepted (flat_map names_in all) l) there.own)
 
 module _ (contents : List FileContent) (all : List Verdict) (count : length all ≡ length contents)
-    (each : (place : ℕ) (v : Verdict) → slice_get all place ≡ Some v → IsVerdictOfFile system_classes contents place v) where
-  right : AreRight system_classes (world_of system_classes contents) [] contents all
-  right = are_right system_classes contents [] contents all refl count (λ place v e. subst (λ (n : ℕ). IsVerdictOfFile system_classes contents n v) (sym (none_before place)) (each place v e))
+    (each : (place : ℕ) (v : Verdict) → slice_get all place ≡ Some v → IsVerdictOfFile (with_library []) contents place v) where
+  right : AreRight (with_library []) (world_of (with_library []) contents) [] contents all
+  right = are_right (with_library []) contents [] contents all refl count (λ place v e. subst (λ (n : ℕ). IsVerdictOfFile (with_library []) contents n v) (sym (none_before place)) (each place v e))
     where
       none_before : (place : ℕ) → length {A = FileContent} [] + place ≡ place
       none_before place = omega arith
 
-  own_classes : classes_in contents ≡ map class_in (rows contents all)
-  own_classes = classes_are system_classes (world_of system_classes contents) [] contents all right
+  own_classes : classes_in (with_library []) contents ≡ map class_in (rows contents all)
+  own_classes = classes_are (with_library []) (world_of (with_library []) contents) [] contents all right
 
-  pub accepted_told : IsNumbered (world_of system_classes contents) → TellsEach (world_of system_classes contents) (accepted_by all) (is_accepted (accepted_names contents all))
+  pub accepted_told : IsNumbered (world_of (with_library []) contents) → TellsEach (world_of (with_library []) contents) (accepted_by all) (is_accepted (accepted_names contents all))
   accepted_told numbered =
       let table = rows contents all in
       let unlike = are_unlike system_classes table (subst (λ (cs : List Class). IsNumbered (map (loaded true) system_classes ++ map (loaded false) cs)) own_classes numbered) in
       let told = each_told system_classes (map (loaded false) (map class_in table)) (map flag_in table) (is_accepted (flat_map names_in table)) (λ c. refl) (guests_told table unlike) in
       subst (λ (cs : List Class). TellsEach (map (loaded true) system_classes ++ map (loaded false) cs) (accepted_by all) (is_accepted (accepted_names contents all))) (sym own_classes)
       (subst (λ (bs : List Bool). TellsEach (map (loaded true) system_classes ++ map (loaded false) (map class_in table)) (replicate 33 true ++ bs) (is_accepted (accepted_names contents all)))
-      (sym (flags_are system_classes (world_of system_classes contents) [] contents all right))
+      (sym (flags_are (with_library []) (world_of (with_library []) contents) [] contents all right))
       (subst (λ (ns : List (List ℕ)). TellsEach (map (loaded true) system_classes ++ map (loaded false) (map class_in table)) (replicate 33 true ++ map flag_in table) (is_accepted ns))
       (sym (names_are contents all)) told))
 
 pub judged_told :
-    (files : List (List ℕ)) (judged : Judged) → IsJudged files judged → IsNumbered judged.program.world
+    (files : List (List ℕ)) (judged : Judged) → IsJudged [] files judged → IsNumbered judged.program.world
     → TellsEach judged.program.world (accepted_by judged.verdicts) (is_class_accepted judged.program)
 judged_told files judged is numbered =
-    subst (λ (ns : List (List ℕ)). TellsEach judged.program.world (accepted_by judged.verdicts) (is_accepted ns)) (sym is.accepted)
-    (subst (λ (w : World). TellsEach w (accepted_by judged.verdicts) (is_accepted (accepted_names is.contents judged.verdicts))) (sym is.world)
-    (accepted_told is.contents judged.verdicts is.count is.verdict (subst IsNumbered is.world numbered)))
+    let world = world_without_library judged [] files refl is in
+    subst (λ (ns : List (List ℕ)). TellsEach judged.program.world (accepted_by judged.verdicts) (is_accepted ns))
+    (sym (accepted_without_library judged [] files refl is))
+    (subst (λ (w : World). TellsEach w (accepted_by judged.verdicts) (is_accepted (accepted_names is.contents judged.verdicts))) (sym world)
+    (accepted_told is.contents judged.verdicts is.count (verdicts_without_library judged [] files refl is) (subst IsNumbered world numbered)))
 
 -- ---- verdict by verdict
 

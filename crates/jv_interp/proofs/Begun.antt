@@ -2,13 +2,15 @@
 use Rattle.std.proofs.Common.{◌≡◌, ℕ, ◌+◌, ◌<◌, ◌≤◌, Bool, List, [], ◌∷◌, Ok, Err, IsOk, refl, sym, ap, subst, ◌∙◌, arith, append-nil}
 use Rattle.jv_meaning_world.specs.World.{World, world_of}
 use Rattle.jv_meaning_world.specs.FileContent.{FileContent, AreContents, OneContent}
-use Rattle.jv_meaning_world.specs.System.Classes.{system_classes}
+use Rattle.jv_meaning_world.specs.Library.{with_library}
+use Rattle.jv_meaning_world.proofs.Libraries.{no_library_is_one}
 use Rattle.jv_meaning_machine.specs.Faults.{Fault, OrFault, ◌>>=◌}
 use Rattle.jv_meaning_machine.specs.State.{State}
 use Rattle.jv_meaning_machine.specs.Start.{start}
 use Rattle.jv_meaning_machine.specs.Alone.{GuestFiles, Judged, IsJudged, fed, alone}
 use Rattle.jv_meaning_machine.specs.Laws.Shown.{JudgedByVerdicts}
-use Rattle.jv_sound.specs.Law.{NeverFaults}
+use Rattle.jv_sound.specs.Law.{NeverFaults, NoLibraryStands}
+use Rattle.jv_sound.proofs.NoLibrary.{world_without_library}
 use Rattle.jv_verify.specs.Files.{Verified, AreFilesOf}
 use Rattle.jv_interp_heap.specs.ObjectsInBlocks.{Blocks}
 use Rattle.jv_interp_control.specs.Moves.{AreVerified}
@@ -43,26 +45,30 @@ one_each one (f ∷ files) (c ∷ contents) [] h k = absurd k
 one_each one (f ∷ files) (c ∷ contents) (o ∷ others) h k =
     ap (λ (x : FileContent). x ∷ contents) (one f c o h.0 k.0) ∙ ap (λ (xs : List FileContent). o ∷ xs) (one_each one files contents others h.1 k.1)
 
-module _ (by_verdicts : JudgedByVerdicts) (one : OneContent) (never : NeverFaults) (found : Verified) (files : List (List ℕ)) (are : AreFilesOf files found) (main input : List ℕ) (budget : Budget)
+module _ (by_verdicts : JudgedByVerdicts) (one : OneContent) (never : NeverFaults) (stand : NoLibraryStands)
+    (found : Verified) (files : List (List ℕ)) (are : AreFilesOf files found) (main input : List ℕ) (budget : Budget)
     (verified : List Bool) (told : AreVerifiedClasses found verified) where
-  pub judging : (judged : Judged) × IsJudged files judged × (judged.verdicts ≡ found.verdicts)
-  judging = by_verdicts files are.contents found.verdicts are.read are.found.verdicts.count are.found.verdicts.verdict
+  pub judging : (judged : Judged) × IsJudged [] files judged × (judged.verdicts ≡ found.verdicts)
+  judging = by_verdicts [] files [] are.contents found.verdicts no_library_is_one are.read are.found.verdicts.count are.found.verdicts.verdict
 
   abbrev pub judged : Judged
   judged = judging.0
 
-  pub right : IsJudged files judged
+  pub right : IsJudged [] files judged
   right = judging.1
+
+  own_world : judged.program.world ≡ world_of (with_library []) right.contents
+  own_world = world_without_library judged [] files refl right
 
   pub world_is : judged.program.world ≡ found.world
   world_is =
-      right.world ∙ ap (λ (cs : List FileContent). world_of system_classes cs) (one_each one files right.contents are.contents right.held are.read) ∙ sym are.found.world
+      own_world ∙ ap (λ (cs : List FileContent). world_of (with_library []) cs) (one_each one files right.contents are.contents right.held are.read) ∙ sym are.found.world
 
   abbrev pub g : GuestFiles
   g = guest_with files main input
 
   pub first : (s : State) × (start judged.program main input (budget_of budget) ≡ Ok s) × (alone judged g (budget_of budget) [] 0 ≡ Ok s)
-  first = there_is (start judged.program main input (budget_of budget)) (never judged g (budget_of budget) [] 0 right)
+  first = there_is (start judged.program main input (budget_of budget)) (never judged g (budget_of budget) [] 0 right (stand judged [] files refl right))
 
   pub are_verified : AreVerified judged.program verified
   are_verified = told files judged right world_is judging.2
@@ -73,7 +79,7 @@ module _ (by_verdicts : JudgedByVerdicts) (one : OneContent) (never : NeverFault
       subst (λ (fs : List Bool). StartsIn world fs main input budget judged.program first.0) (sym flags_are)
       (record {
         world_is = world_is ∙ sym same;
-        guests = (right.contents, right.world, files, right.held);
+        guests = (right.contents, own_world, files, right.held);
         are = are_verified;
         does = first.1;
       })
@@ -90,6 +96,7 @@ module _ (by_verdicts : JudgedByVerdicts) (one : OneContent) (never : NeverFault
       record {
         addresses = started.held.out_of_memory ∷ started.held.arguments ∷ s.more;
         stands = record {
+          no_library = refl;
           judged = judged;
           right = right;
           world_is = world_is ∙ sym (ap (λ (v : Verified). v.world) found_is);

@@ -42,6 +42,7 @@ input_changed before after same held_is g b feeds later n addresses blocks input
     let read_is = ap (λ (x : Held). x.read) held_is in
     record {
       judged = h.judged;
+      no_library = h.no_library;
       right = h.right;
       world_is = h.world_is ∙ sym (ap (λ (x : Guest). x.judged.world) same);
       verdicts_are = h.verdicts_are ∙ sym (ap (λ (x : Guest). x.judged.verdicts) same);

@@ -5,6 +5,7 @@ use Rattle.jv_class.specs.Class.{Class}
 use Rattle.jv_meaning_world.specs.FileContent.{FileContent}
 use Rattle.jv_meaning_world.specs.declared.content.Content.TheVariants.{OtherVersion, NoClassFile, MoreThanProfile, Holds}
 use Rattle.jv_meaning_world.specs.System.Classes.{system_classes}
+use Rattle.jv_meaning_world.specs.Library.{with_library}
 use Rattle.jv_meaning_world.specs.World.{World, loaded, is_reserved, has_class, with_class_of, joined_all, classes_in}
 use Rattle.jv_verify.specs.Files.{Verified, AreVerified}
 
@@ -29,7 +30,7 @@ all_more classes (file ∷ files) =
 
 pub few_classes : (contents : List FileContent) (verified : Verified) → AreVerified contents verified → length verified.world ≤ 33 + length verified.verdicts
 few_classes contents verified are =
-    let own = classes_in contents in
+    let own = classes_in (with_library []) contents in
     let size = ap (λ (w : World). length w) are.world in
     let both = length-append (map (loaded true) system_classes) (map (loaded false) own) in
     let first = length-map system_classes (loaded true) in

@@ -3,6 +3,7 @@ use Rattle.std.proofs.Common.{◌≡◌, ℕ, zero, suc, true, false, ◌-◌, �
 use Rattle.std.proofs.lemmas.List.{length-replicate, length-map, take_all}
 use Rattle.jv_class.specs.Class.{Class}
 use Rattle.jv_meaning_world.specs.System.Classes.{system_classes}
+use Rattle.jv_meaning_world.specs.Library.{with_library}
 use Rattle.jv_meaning_world.specs.World.{Loaded, World, loaded, classes_in, world_of}
 use Rattle.jv_meaning_world.specs.FileContent.{FileContent}
 use Rattle.jv_meaning_machine.specs.State.{class_state}
@@ -26,9 +27,9 @@ each_state (c ∷ system) own (suc number) l e = each_state system own number l 
 system_size : length system_classes ≡ 33
 system_size = refl
 
-in_world : (contents : List FileContent) (count : ℕ) → length (world_of system_classes contents) ≡ count → AreClassStates (world_of system_classes contents) [] (states_at_start count)
+in_world : (contents : List FileContent) (count : ℕ) → length (world_of (with_library []) contents) ≡ count → AreClassStates (world_of (with_library []) contents) [] (states_at_start count)
 in_world contents count size number l e =
-    let own = classes_in contents in
+    let own = classes_in (with_library []) contents in
     let both = length-append (map (loaded true) system_classes) (map (loaded false) own) in
     let first : length (map (loaded true) system_classes) ≡ 33 = length-map system_classes (loaded true) ∙ system_size in
     let more : length (map (loaded false) own) ≡ length own = length-map own (loaded false) in

@@ -33,6 +33,7 @@ went on g b feeds n k addresses before after blocks blocks_after h r same linked
       more = r.reaches.more;
       stands = record {
         judged = h.judged;
+        no_library = h.no_library;
         right = h.right;
         world_is = h.world_is ∙ sym (ap (λ (x : Guest). x.judged.world) same);
         verdicts_are = h.verdicts_are ∙ sym (ap (λ (x : Guest). x.judged.verdicts) same);

@@ -7,7 +7,6 @@ pub mod MainFound
 pub mod Opened
 pub mod StartedStands
 pub mod FewClasses
-pub mod CanStartJudged
 pub mod Safe
 pub mod Later
 pub mod Fed

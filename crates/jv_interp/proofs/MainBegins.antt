@@ -7,7 +7,7 @@ use Rattle.std.proofs.lemmas.List.Concat.{flat_map-cons}
 use Rattle.jv_stackmap.specs.Types.{value_type, width}
 use Rattle.jv_text.specs.Descriptor.{field_slots}
 use Rattle.jv_meaning_world.specs.FileContent.{FileContent}
-use Rattle.jv_meaning_world.specs.System.Classes.{system_classes}
+use Rattle.jv_meaning_world.specs.Library.{with_library}
 use Rattle.jv_meaning_world.specs.World.{Loaded, World, class_named, world_of}
 use Rattle.jv_meaning_world.specs.LookUps.{DeclaredField, field_by}
 use Rattle.jv_meaning_typing.specs.Kind.{is_static_field}
@@ -37,7 +37,7 @@ pub record Known (world : World) (l : Loaded) : Type 0 where
 same_some : (a b : Loaded) → Some a ≡ Some b → a ≡ b
 same_some a b e = cc
 
-known : (contents : List FileContent) → (l : Loaded) × Known (world_of system_classes contents) l
+known : (contents : List FileContent) → (l : Loaded) × Known (world_of (with_library []) contents) l
 known contents = (
   _,
   record {
@@ -50,11 +50,11 @@ known contents = (
 )
 
 pub known_in :
-    (world : World) (contents : List FileContent) (error : Loaded) → world ≡ world_of system_classes contents
+    (world : World) (contents : List FileContent) (error : Loaded) → world ≡ world_of (with_library []) contents
     → class_named world (codes "java/lang/OutOfMemoryError") ≡ Some error → Known world error
 known_in world contents error is named =
     subst (λ (w : World). class_named w (codes "java/lang/OutOfMemoryError") ≡ Some error → Known w error) (sym is)
-    (λ e. let k = known contents in subst (λ (l : Loaded). Known (world_of system_classes contents) l) (same_some k.0 error (sym k.1.named ∙ e)) k.1)
+    (λ e. let k = known contents in subst (λ (l : Loaded). Known (world_of (with_library []) contents) l) (same_some k.0 error (sym k.1.named ∙ e)) k.1)
     named
 
 -- ---- objects

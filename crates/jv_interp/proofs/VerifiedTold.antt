@@ -1,5 +1,5 @@
 -- The classes that the machine takes for verified are told.
-use Rattle.std.proofs.Common.{◌≡◌, ℕ, Bool, List, sym, subst}
+use Rattle.std.proofs.Common.{◌≡◌, ℕ, Bool, List, [], sym, subst}
 use Rattle.jv_meaning_world.specs.World.{World}
 use Rattle.jv_meaning_world.specs.Numbers.{IsNumbered}
 use Rattle.jv_meaning_machine.specs.State.{is_class_accepted}
@@ -9,7 +9,7 @@ use Rattle.jv_interp.specs.VerifiedClasses.{accepted_by, TellWithAbove}
 use Rattle.jv_interp.proofs.AcceptedClasses.{judged_told}
 
 pub verified_told :
-    (files : List (List ℕ)) (judged : Judged) (world : World) (flags all : List Bool) → IsJudged files judged → judged.program.world ≡ world
+    (files : List (List ℕ)) (judged : Judged) (world : World) (flags all : List Bool) → IsJudged [] files judged → judged.program.world ≡ world
     → flags ≡ accepted_by judged.verdicts → IsNumbered world → TellWithAbove world flags all → AreVerified judged.program all
 verified_told files judged world flags all is world_is flags_are numbered told =
     told_there (subst IsNumbered (sym world_is) numbered)

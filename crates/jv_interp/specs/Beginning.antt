@@ -10,7 +10,7 @@ use Rattle.jv_interp.specs.declared.guest.Guest.{Guest}
 use Rattle.jv_interp.specs.Standing.{GuestStands}
 
 abbrev pub guest_with : List (List ℕ) → List ℕ → List ℕ → GuestFiles
-guest_with files main input = record { files = files; main = main; input = input }
+guest_with files main input = record { library = []; files = files; main = main; input = input }
 
 -- It stands for the start, under addresses of new blocks; and all that there were are as they were.
 pub record Begins (files : List (List ℕ)) (main input : List ℕ) (budget : Budget) (before : Blocks) (guest : Guest)

@@ -26,11 +26,13 @@ pub record AreTables (world : World) (guest : Guest) : Type 0 where
   pub texts : AreTexts world guest.texts
   pub few : length world ≤ 1057
 
--- A guest with these files and this budget, which was fed so, stands after so many of its own steps. What came, came by then.
+-- A guest with these files and this budget, and without a library, which was fed so, stands after so many of its own steps. What came, came
+-- by then.
 pub record GuestStands (g : GuestFiles) (b : Budget) (feeds : List Feed) (n : ℕ) (addresses : List ℕ) (guest : Guest)
     (blocks : Blocks) : Type 0 where
+  pub no_library : g.library ≡ []
   pub judged : Judged
-  pub right : IsJudged g.files judged
+  pub right : IsJudged g.library g.files judged
   pub world_is : judged.program.world ≡ guest.judged.world
   pub verdicts_are : judged.verdicts ≡ guest.judged.verdicts
   pub verified_are : AreVerified judged.program guest.verified.items

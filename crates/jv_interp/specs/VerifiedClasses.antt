@@ -1,6 +1,6 @@
 -- Which classes of a guest were accepted together with all classes and interfaces above them (JVMS 4.10, 5.4.1), by their numbers: as the
 -- verdicts on the guest's files tell it.
-use Rattle.std.specs.Prelude.{◌≡◌, ℕ, Bool, true, false, not, ◌&&◌, ◌||◌, List, ◌++◌, replicate, Option, Some, None, slice_get}
+use Rattle.std.specs.Prelude.{◌≡◌, ℕ, Bool, true, false, not, ◌&&◌, ◌||◌, List, [], ◌++◌, replicate, Option, Some, None, slice_get}
 use Rattle.std.specs.List.{filter_map, list_all}
 use Rattle.jv_meaning_world.specs.declared.verdict.LoadVerdict.TheVariants.{Version, Format, Unsupported, Reserved, Duplicate}
 use Rattle.jv_meaning_world.specs.World.{Loaded, World}
@@ -50,5 +50,5 @@ TellWithAbove world flags all = (test : Loaded → Bool) → TellsEach world fla
 -- Of each guest that has these classes and these verdicts, the machine takes a class for verified exactly where this is told (5.4.1).
 abbrev pub AreVerifiedClasses : Verified → List Bool → Type 0
 AreVerifiedClasses found all =
-    (files : List (List ℕ)) (judged : Judged) → IsJudged files judged → judged.program.world ≡ found.world
+    (files : List (List ℕ)) (judged : Judged) → IsJudged [] files judged → judged.program.world ≡ found.world
     → judged.verdicts ≡ found.verdicts → AreVerified judged.program all

@@ -15,7 +15,7 @@ use jv_interp_objects::Texts;
 use jv_link_cache::link;
 use jv_meaning_machine::judged_by_verdicts;
 use jv_meaning_world::one_content;
-use jv_sound::never_faults;
+use jv_sound::{never_faults, no_library_stands};
 use jv_store::{OutOfMemory, Store};
 use jv_verify::Verified;
 use std::alloc::Global;
@@ -45,6 +45,7 @@ fn begin_in_room<'a, S: Store>(
     one_content();
     judged_by_verdicts();
     never_faults();
+    no_library_stands();
     let classes = judged.classes();
     let Ok(linked) = link(alloc, classes) else {
         return Err(OutOfMemory);

@@ -1,8 +1,8 @@
 -- What is thrown has a class, which its object tells (JVMS 2.10; own).
-use Rattle.std.proofs.Common.{◌≡◌, ℕ, ◌+◌, ◌-◌, ◌^◌, ◌<◌, min, true, List, Some, Ok, codes, length, get_or, slice_get, refl, sym, ap, subst, ◌∙◌, arith}
+use Rattle.std.proofs.Common.{◌≡◌, ℕ, ◌+◌, ◌-◌, ◌^◌, ◌<◌, min, true, List, Some, Ok, codes, length, get_or, slice_get, refl, sym, ap, subst, ◌∙◌, arith, []}
 use Rattle.jv_store.specs.Content.{words_at}
 use Rattle.jv_meaning_world.specs.FileContent.{FileContent}
-use Rattle.jv_meaning_world.specs.System.Classes.{system_classes}
+use Rattle.jv_meaning_world.specs.Library.{with_library}
 use Rattle.jv_meaning_world.specs.World.{World, world_of}
 use Rattle.jv_meaning_machine.specs.Faults.{OrFault, ◌>>=◌}
 use Rattle.jv_meaning_machine.specs.Faults.Fault.{ReferenceFault}
@@ -25,7 +25,7 @@ same_some x y e = cc
 -- an ExceptionInInitializerError is an Error
 pub initializer_error :
     (contents : List FileContent)
-    → is_at_or_below (world_of system_classes contents) (codes "java/lang/ExceptionInInitializerError") (codes "java/lang/Error") ≡ true
+    → is_at_or_below (world_of (with_library []) contents) (codes "java/lang/ExceptionInInitializerError") (codes "java/lang/Error") ≡ true
 initializer_error contents = refl
 
 -- ---- the machine's throw of what was made

@@ -1,8 +1,8 @@
 -- The numbers of the system's classes whose objects the machine makes or throws, and of java/lang/Error (own): they stand first in
 -- the world of each guest.
-use Rattle.std.specs.Prelude.{◌≡◌, ℕ, ◌++◌, List, codes}
+use Rattle.std.specs.Prelude.{◌≡◌, ℕ, ◌++◌, List, codes, []}
 use Rattle.jv_meaning_world.specs.FileContent.{FileContent, AreContents}
-use Rattle.jv_meaning_world.specs.System.Classes.{system_classes}
+use Rattle.jv_meaning_world.specs.Library.{with_library}
 use Rattle.jv_meaning_world.specs.World.{World, world_of}
 use Rattle.jv_meaning_machine.specs.Literals.{string_name}
 use Rattle.jv_interp_heap.specs.ObjectsInBlocks.{HasNumber}
@@ -11,7 +11,7 @@ use Rattle.jv_interp_heap.specs.declared.numbers.TheConstants.{STRING, ERROR, AR
 -- the world of a guest's files, by what they hold
 abbrev pub IsGuestsWorld : World → Type 0
 IsGuestsWorld world =
-    (contents : List FileContent) × (world ≡ world_of system_classes contents) × (files : List (List ℕ)) × AreContents files contents
+    (contents : List FileContent) × (world ≡ world_of (with_library []) contents) × (files : List (List ℕ)) × AreContents files contents
 
 abbrev pub IsNumbered : World → List ℕ → ℕ → Type 0
 IsNumbered world simple number = HasNumber world (codes "java/lang/" ++ simple) number
@@ -40,4 +40,4 @@ pub record AreSystemNumbers (world : World) : Type 0 where
 
 -- A law: in the world of each guest they have these numbers.
 abbrev pub SystemHasNumbers : Type 0
-SystemHasNumbers = (contents : List FileContent) → AreSystemNumbers (world_of system_classes contents)
+SystemHasNumbers = (contents : List FileContent) → AreSystemNumbers (world_of (with_library []) contents)

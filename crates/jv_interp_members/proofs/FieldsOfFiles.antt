@@ -19,6 +19,7 @@ use Rattle.jv_class.specs.Rules.{KeepsRulesAsField, KeepsFieldRules, field_texts
 use Rattle.jv_meaning_world.specs.FileContent.{FileContent, IsProfileClass, IsContent, AreContents}
 use Rattle.jv_meaning_world.specs.declared.content.Content.TheVariants.{OtherVersion, NoClassFile, MoreThanProfile, Holds}
 use Rattle.jv_meaning_world.specs.System.Classes.{system_classes}
+use Rattle.jv_meaning_world.specs.Library.{with_library}
 use Rattle.jv_meaning_world.specs.World.{Loaded, World, loaded, is_reserved, has_class, with_class_of, joined_all, classes_in, world_of}
 use Rattle.jv_meaning_world.proofs.Up.{none, single, first, later}
 use Rattle.jv_meaning_typing.proofs.Found.{split}
@@ -286,13 +287,13 @@ module _ (P : Class → Type 0) (of_structure : (c : ClassStructure) (class : Cl
   pub each_keeps :
       ((c : Class) → Contains system_classes c → P c) → (world : World) → IsGuestsWorld world → (l : Loaded) → Contains world l → P l.class
   each_keeps of_system world guests l h =
-      elim (Contains-append_cases (map (loaded true) system_classes) (map (loaded false) (classes_in guests.0)) l
+      elim (Contains-append_cases (map (loaded true) system_classes) (map (loaded false) (classes_in (with_library []) guests.0)) l
       (subst (λ (w : World). Contains w l) guests.1 h)) [
         | inl k ↦
             let c = in_loaded true system_classes l k in
             subst (λ (x : Loaded). P x.class) c.2 (of_system c.0 c.1)
         | inr k ↦
-            let c = in_loaded false (classes_in guests.0) l k in
+            let c = in_loaded false (classes_in (with_library []) guests.0) l k in
             subst (λ (x : Loaded). P x.class) c.2
             (elim (joined_from [] guests.0 c.0 c.1) [
               | inl j ↦ absurd (none c.0 j)

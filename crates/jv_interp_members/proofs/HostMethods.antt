@@ -6,14 +6,15 @@ use Rattle.std.specs.Str.{bytes_eq}
 use Rattle.std.proofs.lemmas.Bool.{and_parts}
 use Rattle.jv_class.specs.Class.{Class, Method}
 use Rattle.jv_meaning_world.specs.FileContent.{FileContent}
-use Rattle.jv_meaning_world.specs.System.Classes.{classes_with_files, system_classes}
+use Rattle.jv_meaning_world.specs.System.Classes.{classes_with_files}
 use Rattle.jv_class_structure.specs.Flags.{acc_public, acc_static}
 use Rattle.jv_meaning_world.specs.System.Io.{io}
 use Rattle.jv_meaning_world.specs.System.Members.{method_without_code}
+use Rattle.jv_meaning_world.specs.Library.{with_library}
 use Rattle.jv_meaning_world.specs.World.{Loaded, World, classes_in, loaded, world_of}
 use Rattle.jv_interp_members.proofs.Sites.{some_same}
 
-pub io_at : (contents : List FileContent) → slice_get (world_of system_classes contents) 32 ≡ Some (loaded true io)
+pub io_at : (contents : List FileContent) → slice_get (world_of (with_library []) contents) 32 ≡ Some (loaded true io)
 io_at contents = refl
 
 abbrev pub is_host : Loaded → Bool
@@ -52,18 +53,18 @@ in_guests (class ∷ classes) zero l e = subst (λ (x : Loaded). is_host x ≡ f
 in_guests (class ∷ classes) (suc n) l e = in_guests classes n l e
 
 pub other_class :
-    (contents : List FileContent) (number : ℕ) (l : Loaded) → slice_get (world_of system_classes contents) number ≡ Some l → (number ≡ 32 → ⊥)
+    (contents : List FileContent) (number : ℕ) (l : Loaded) → slice_get (world_of (with_library []) contents) number ≡ Some l → (number ≡ 32 → ⊥)
     → is_host l ≡ false
 other_class contents number l e other =
-    by_place (in_front classes_with_files (loaded true io ∷ map (loaded false) (classes_in contents)) number l refl e)
+    by_place (in_front classes_with_files (loaded true io ∷ map (loaded false) (classes_in (with_library []) contents)) number l refl e)
   where
-    behind : (m : ℕ) → number ≡ 32 + m → slice_get (loaded true io ∷ map (loaded false) (classes_in contents)) m ≡ Some l → is_host l ≡ false
+    behind : (m : ℕ) → number ≡ 32 + m → slice_get (loaded true io ∷ map (loaded false) (classes_in (with_library []) contents)) m ≡ Some l → is_host l ≡ false
     behind zero is at = absurd (other (omega (arith, is)))
-    behind (suc m) is at = in_guests (classes_in contents) m l at
+    behind (suc m) is at = in_guests (classes_in (with_library []) contents) m l at
 
     by_place :
         (is_host l ≡ false)
-        ⊎ ((m : ℕ) × (number ≡ length classes_with_files + m) × (slice_get (loaded true io ∷ map (loaded false) (classes_in contents)) m ≡ Some l))
+        ⊎ ((m : ℕ) × (number ≡ length classes_with_files + m) × (slice_get (loaded true io ∷ map (loaded false) (classes_in (with_library []) contents)) m ≡ Some l))
         → is_host l ≡ false
     by_place (inl f) = f
     by_place (inr f) = behind f.0 f.1 f.2

@@ -9,6 +9,7 @@ use Rattle.jv_class.specs.Class.{Class}
 use Rattle.jv_meaning_world.specs.FileContent.{FileContent}
 use Rattle.jv_meaning_world.specs.declared.content.Content.TheVariants.{OtherVersion, NoClassFile, MoreThanProfile, Holds}
 use Rattle.jv_meaning_world.specs.System.Classes.{system_classes}
+use Rattle.jv_meaning_world.specs.Library.{with_library}
 use Rattle.jv_meaning_world.specs.World.{Loaded, World, loaded, is_reserved, has_class, with_class_of, joined_all, classes_in, world_of}
 use Rattle.jv_meaning_world.proofs.Up.{none, single, first, later}
 use Rattle.jv_meaning_typing.proofs.Found.{split}
@@ -158,13 +159,13 @@ own_append (x ∷ xs) ys own more apart = (
   own_append xs ys own.1 more (λ z y h k. apart z y (later x xs z h) k),
 )
 
-pub names_differ : (contents : List FileContent) → HaveOwnNames (world_of system_classes contents)
+pub names_differ : (contents : List FileContent) → HaveOwnNames (world_of (with_library []) contents)
 names_differ contents =
     let own = all_own [] contents no_classes in
-    own_append (map (loaded true) system_classes) (map (loaded false) (classes_in contents)) (loaded_own true system_classes system_once)
-    (loaded_own false (classes_in contents) own.once)
+    own_append (map (loaded true) system_classes) (map (loaded false) (classes_in (with_library []) contents)) (loaded_own true system_classes system_once)
+    (loaded_own false (classes_in (with_library []) contents) own.once)
     (λ x y h k same.
     let c = in_loaded true system_classes x h in
-    let d = in_loaded false (classes_in contents) y k in
+    let d = in_loaded false (classes_in (with_library []) contents) y k in
     let same_name : d.0.name ≡ c.0.name = ap (λ (l : Loaded). l.class.name) d.2 ∙ same ∙ ap (λ (l : Loaded). l.class.name) (sym c.2) in
     clash (sym (system_reserved c.0 c.1) ∙ ap is_reserved (sym same_name) ∙ own.free d.0 d.1))

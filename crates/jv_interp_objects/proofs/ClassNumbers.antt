@@ -3,11 +3,11 @@ use Rattle.std.proofs.Common.{◌≡◌, ℕ, zero, suc, Bool, true, false, cond
 use Rattle.std.specs.Prelude.{codes}
 use Rattle.std.specs.Str.{bytes_eq}
 use Rattle.jv_meaning_world.specs.FileContent.{FileContent}
+use Rattle.jv_meaning_world.specs.Library.{with_library}
 use Rattle.jv_meaning_world.specs.World.{Loaded, World, class_named, world_of}
 use Rattle.jv_meaning_world.specs.Above.{is_above}
 use Rattle.jv_meaning_world.specs.Flow.{is_above_arrays}
 use Rattle.jv_meaning_world.specs.Numbers.{IsNumbered, number_named}
-use Rattle.jv_meaning_world.specs.System.Classes.{system_classes}
 use Rattle.jv_meaning_world.proofs.Up.{same_name}
 use Rattle.jv_classes.proofs.Numbers.{number_at}
 use Rattle.jv_classes.proofs.Told.{other_name}
@@ -66,13 +66,13 @@ module _ (world : World) (name other : List ℕ) (n k : ℕ) (h : HasNumber worl
 
 -- ---- what is above arrays stands first
 
-cloneable_first : (contents : List FileContent) → HasNumber (world_of system_classes contents) (codes "java/lang/Cloneable") 0
+cloneable_first : (contents : List FileContent) → HasNumber (world_of (with_library []) contents) (codes "java/lang/Cloneable") 0
 cloneable_first contents = record { l = _; named = refl; at = refl }
 
-serializable_second : (contents : List FileContent) → HasNumber (world_of system_classes contents) (codes "java/io/Serializable") 1
+serializable_second : (contents : List FileContent) → HasNumber (world_of (with_library []) contents) (codes "java/io/Serializable") 1
 serializable_second contents = record { l = _; named = refl; at = refl }
 
-object_third : (contents : List FileContent) → HasNumber (world_of system_classes contents) (codes "java/lang/Object") 2
+object_third : (contents : List FileContent) → HasNumber (world_of (with_library []) contents) (codes "java/lang/Object") 2
 object_third contents = record { l = _; named = refl; at = refl }
 
 module _ (world : World) (guests : IsGuestsWorld world) (numbers : IsNumbered world) (name : List ℕ) where

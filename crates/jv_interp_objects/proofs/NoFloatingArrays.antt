@@ -19,6 +19,7 @@ use Rattle.jv_classes.proofs.Ways.{at_place}
 use Rattle.jv_meaning_world.specs.FileContent.{FileContent, IsContent, AreContents}
 use Rattle.jv_meaning_world.specs.declared.content.Content.TheVariants.{OtherVersion, NoClassFile, MoreThanProfile, Holds}
 use Rattle.jv_meaning_world.specs.System.Classes.{system_classes}
+use Rattle.jv_meaning_world.specs.Library.{with_library}
 use Rattle.jv_meaning_world.specs.World.{Loaded, World, loaded, is_reserved, has_class, with_class_of, joined_all, classes_in}
 use Rattle.jv_meaning_world.proofs.Up.{none, single, first, later}
 use Rattle.jv_meaning_typing.specs.Operands.{class_operand}
@@ -166,13 +167,13 @@ pub names_no_floating_array :
     (world : World) → IsGuestsWorld world → (class index : ℕ) (l : Loaded) (text : List ℕ) → slice_get world class ≡ Some l
     → class_operand l.class index ≡ Some text → IsNoFloatingArray text
 names_no_floating_array world guests class index l text at operand =
-    elim (Contains-append_cases (map (loaded true) system_classes) (map (loaded false) (classes_in guests.0)) l
+    elim (Contains-append_cases (map (loaded true) system_classes) (map (loaded false) (classes_in (with_library []) guests.0)) l
     (subst (λ (w : World). Contains w l) guests.1 (at_place world class l at))) [
       | inl k ↦
           let c = in_loaded true system_classes l k in
           subst (λ (x : Loaded). NamesNone x.class) c.2 (passed_names_none c.0 (each_passes system_classes system_passes c.0 c.1)) index text operand
       | inr k ↦
-          let c = in_loaded false (classes_in guests.0) l k in
+          let c = in_loaded false (classes_in (with_library []) guests.0) l k in
           subst (λ (x : Loaded). NamesNone x.class) c.2
           (elim (joined_from [] guests.0 c.0 c.1) [
             | inl j ↦ absurd (none c.0 j)

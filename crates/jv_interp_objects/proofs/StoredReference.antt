@@ -8,8 +8,8 @@ use Rattle.std.proofs.Math.Seq.{set-append_seam}
 use Rattle.jv_store.specs.Content.{words_at, written}
 use Rattle.jv_stackmap.specs.Types.{value_type, width}
 use Rattle.jv_code.specs.declared.insn.Insn.TheVariants as insns
+use Rattle.jv_meaning_world.specs.Library.{with_library}
 use Rattle.jv_meaning_world.specs.World.{World, world_of}
-use Rattle.jv_meaning_world.specs.System.Classes.{system_classes}
 use Rattle.jv_meaning_machine.specs.Values.{Value, value_words, narrowed}
 use Rattle.jv_meaning_machine.specs.Values.Value.{Null}
 use Rattle.jv_meaning_machine.specs.Objects.{is_instance_of}
@@ -76,7 +76,7 @@ module _ (world : World) (next : ℕ) (here : Place) (texts : List (List ℕ)) (
       → DidIn here.blocks texts here (effects.Raises number) c addresses done below
   raises class number is numbered =
       raises_in part texts next here c addresses done below h.executes class number is
-      (subst (λ (w : World). HasNumber w class number) (sym (h.world_is ∙ h.guests.1)) (numbered (world_of system_classes h.guests.0) (system_numbers h.guests.0)))
+      (subst (λ (w : World). HasNumber w class number) (sym (h.world_is ∙ h.guests.1)) (numbered (world_of (with_library []) h.guests.0) (system_numbers h.guests.0)))
 
   pub null_raises : address ≡ 0 → DidIn here.blocks texts here (effects.Raises 15) c addresses done below
   null_raises zero_is =

@@ -9,6 +9,7 @@ use Rattle.jv_class.specs.Class.{Class}
 use Rattle.jv_meaning_world.specs.FileContent.{FileContent, IsContent, AreContents}
 use Rattle.jv_meaning_world.specs.declared.content.Content.TheVariants.{Holds}
 use Rattle.jv_meaning_world.specs.System.Classes.{classes_with_files, system_classes, system_contents, system_bytes}
+use Rattle.jv_meaning_world.specs.Library.{with_library}
 use Rattle.std.specs.Prelude.{◌⊎◌}
 use Rattle.std.specs.List.{Contains}
 use Rattle.std.proofs.lemmas.List.Elements.{Contains-append_cases}
@@ -169,12 +170,12 @@ of_system guests l h t = by_part (Contains-append_cases (map (loaded true) syste
     by_part (inl k) = in_mapped (loaded true) system_classes l k
     by_part (inr k) = let found = in_mapped (loaded false) guests l k in absurd (unlike (subst (λ (m : Loaded). IsTrue m.by_system) (sym found.2) t))
 
-pub stands_alone : (files : List FileContent) → SystemStandsAlone (world_of system_classes files)
+pub stands_alone : (files : List FileContent) → SystemStandsAlone (world_of (with_library []) files)
 unfolding names_known
 stands_alone files l s h t k =
-    let world = world_of system_classes files in
-    let known = of_system (classes_in files) l h t in
+    let world = world_of (with_library []) files in
+    let known = of_system (classes_in (with_library []) files) l h t in
     let found = found_super world l.class s k in
     let names = each_passes names_known system_classes known.0 refl known.1 in
     let there = each_passes (has_class system_classes) (super_names known.0) found.0 names (subst (λ (m : Loaded). Contains (super_names m.class) found.0) (sym known.2) found.1) in
-    named_in_system system_classes (map (loaded false) (classes_in files)) found.0 s there found.2
+    named_in_system system_classes (map (loaded false) (classes_in (with_library []) files)) found.0 s there found.2

@@ -14,13 +14,18 @@ use Rattle.jv_class.specs.Class.{Class}
 use Rattle.jv_meaning_world.specs.FileContent.{FileContent}
 use Rattle.jv_meaning_world.specs.declared.content.Content.TheVariants.{OtherVersion, NoClassFile, MoreThanProfile, Holds}
 use Rattle.jv_meaning_world.specs.System.Classes.{system_classes}
+use Rattle.jv_meaning_world.specs.Library.{with_library}
 use Rattle.jv_meaning_world.specs.declared.verdict.LoadVerdict.TheVariants.{Reserved, Duplicate}
-use Rattle.jv_meaning_world.specs.World.{Loaded, World, loaded, is_reserved, has_class, with_class_of, joined_all, classes_in, world_of}
+use Rattle.jv_meaning_world.specs.World.{HostClasses, Loaded, World, loaded, is_reserved, has_class, with_class_of, joined_all, classes_in, world_of}
 use Rattle.jv_meaning_world.specs.Verdicts.{verdict_of_class, verdict_behind, load_verdict}
 use Rattle.jv_meaning_world.specs.Numbers.{number_named}
 use Rattle.jv_meaning_world.proofs.Up.{same_name}
 use Rattle.jv_loader.specs.Inside.System.{system_world}
 use Rattle.jv_loader.specs.Inside.Files.{with_file, with_files, entry_of, entries_from, verdict_of_entry, IsPlace}
+
+-- what a host gives that has no library
+abbrev host : HostClasses
+host = with_library []
 
 -- ---- a name is taken
 
@@ -99,7 +104,7 @@ no_guests : guests [] ≡ system_world
 unfolding guests
 no_guests = append-nil system_world
 
-pub world_is : (files : List FileContent) → with_files system_world files ≡ world_of system_classes files
+pub world_is : (files : List FileContent) → with_files system_world files ≡ world_of host files
 unfolding guests
 world_is files = ap (λ w. with_files w files) (sym no_guests) ∙ files_join [] files
 
@@ -134,51 +139,52 @@ at_end (x ∷ world) l more = at_end world l more
 
 -- ---- the verdict on a file, by its entry
 
-one_verdict : (earlier : List FileContent) (file : FileContent) (all : World) → Grows (with_file (guests (classes_in earlier)) file) all
-    → verdict_of_entry all (entry_of (guests (classes_in earlier)) file) ≡ verdict_behind system_classes earlier all file
+one_verdict : (earlier : List FileContent) (file : FileContent) (all : World) → Grows (with_file (guests (classes_in host earlier)) file) all
+    → verdict_of_entry all (entry_of (guests (classes_in host earlier)) file) ≡ verdict_behind host earlier all file
 one_verdict earlier OtherVersion all grows = refl
 one_verdict earlier NoClassFile all grows = refl
 one_verdict earlier MoreThanProfile all grows = refl
 one_verdict earlier (Holds class) all grows = by_reserved (is_reserved class.name) refl grows
   where
     now : World
-    now = guests (classes_in earlier)
+    now = guests (classes_in host earlier)
 
-    by_taken : (b : Bool) → Grows (cond b (guests (classes_in earlier)) (guests (classes_in earlier) ++ loaded false class ∷ [])) all
-        → verdict_of_entry all (cond b (Err Duplicate) (Ok (length (guests (classes_in earlier))))) ≡ cond b (Some Duplicate) (verdict_of_class all (loaded false class))
+    by_taken : (b : Bool) → Grows (cond b (guests (classes_in host earlier)) (guests (classes_in host earlier) ++ loaded false class ∷ [])) all
+        → verdict_of_entry all (cond b (Err Duplicate) (Ok (length (guests (classes_in host earlier))))) ≡ cond b (Some Duplicate) (verdict_of_class all (loaded false class))
     by_taken true grows = refl
     by_taken false grows =
-        ap (option_and_then (verdict_of_class all)) (ap (λ w. slice_get w (length (guests (classes_in earlier)))) grows.1 ∙ at_end (guests (classes_in earlier)) (loaded false class) grows.0)
+        ap (option_and_then (verdict_of_class all)) (ap (λ w. slice_get w (length (guests (classes_in host earlier)))) grows.1 ∙ at_end (guests (classes_in host earlier)) (loaded false class) grows.0)
 
     by_reserved : (r : Bool) → is_reserved class.name ≡ r →
-        Grows (cond (r || is_some (number_named (guests (classes_in earlier)) class.name)) (guests (classes_in earlier))
-        (guests (classes_in earlier) ++ loaded false class ∷ [])) all
-        → verdict_of_entry all (cond r (Err Reserved) (cond (is_some (number_named (guests (classes_in earlier)) class.name)) (Err Duplicate) (Ok (length (guests (classes_in earlier))))))
-        ≡ cond r (Some Reserved) (cond (has_class (classes_in earlier) class.name) (Some Duplicate) (verdict_of_class all (loaded false class)))
+        Grows (cond (r || is_some (number_named (guests (classes_in host earlier)) class.name)) (guests (classes_in host earlier))
+        (guests (classes_in host earlier) ++ loaded false class ∷ [])) all
+        → verdict_of_entry all (cond r (Err Reserved) (cond (is_some (number_named (guests (classes_in host earlier)) class.name)) (Err Duplicate) (Ok (length (guests (classes_in host earlier))))))
+        ≡ cond r (Some Reserved) (cond (has_class (classes_in host earlier) class.name) (Some Duplicate) (verdict_of_class all (loaded false class)))
     by_reserved true e grows = refl
     by_reserved false e grows =
-        let same = taken (classes_in earlier) class.name e in
-        ap (λ b. verdict_of_entry all (cond b (Err Duplicate) (Ok (length (guests (classes_in earlier)))))) same
-        ∙ by_taken (has_class (classes_in earlier) class.name) (subst (λ b. Grows (cond b (guests (classes_in earlier)) (guests (classes_in earlier) ++ loaded false class ∷ [])) all) same grows)
+        let same = taken (classes_in host earlier) class.name e in
+        ap (λ b. verdict_of_entry all (cond b (Err Duplicate) (Ok (length (guests (classes_in host earlier)))))) same
+        ∙ by_taken (has_class (classes_in host earlier) class.name)
+        (subst (λ b. Grows (cond b (guests (classes_in host earlier)) (guests (classes_in host earlier) ++ loaded false class ∷ [])) all) same grows)
 
 one_more : (classes : List Class) (earlier : List FileContent) (file : FileContent) → joined_all classes (earlier ++ file ∷ []) ≡ with_class_of (joined_all classes earlier) file
 one_more classes [] file = refl
 one_more classes (f ∷ earlier) file = one_more (with_class_of classes f) earlier file
 
-next_guests : (earlier : List FileContent) (file : FileContent) → with_file (guests (classes_in earlier)) file ≡ guests (classes_in (earlier ++ file ∷ []))
-next_guests earlier file = file_joins (classes_in earlier) file ∙ ap guests (sym (one_more [] earlier file))
+next_guests : (earlier : List FileContent) (file : FileContent) → with_file (guests (classes_in host earlier)) file ≡ guests (classes_in host (earlier ++ file ∷ []))
+next_guests earlier file = file_joins (classes_in host earlier) file ∙ ap guests (sym (one_more [] earlier file))
 
-verdict_from : (all : World) (earlier files : List FileContent) (k : ℕ) (file : FileContent) → Grows (with_files (guests (classes_in earlier)) files) all → slice_get files k ≡ Some file
-    → slice_get (map (verdict_of_entry all) (entries_from (guests (classes_in earlier)) files)) k ≡ Some (verdict_behind system_classes (earlier ++ take k files) all file)
+verdict_from : (all : World) (earlier files : List FileContent) (k : ℕ) (file : FileContent) → Grows (with_files (guests (classes_in host earlier)) files) all → slice_get files k ≡ Some file
+    → slice_get (map (verdict_of_entry all) (entries_from (guests (classes_in host earlier)) files)) k ≡ Some (verdict_behind host (earlier ++ take k files) all file)
 verdict_from all earlier [] k file grows e = absurd (past k e)
   where
     past : (j : ℕ) → slice_get [] j ≡ Some file → ⊥
     past zero e = absurd cc
     past (suc j) e = absurd cc
 verdict_from all earlier (f ∷ files) zero file grows e =
-    let now = with_file (guests (classes_in earlier)) f in
+    let now = with_file (guests (classes_in host earlier)) f in
     ap (λ v. Some v) (one_verdict earlier f all (grows_on now (with_files now files) all (files_grow now files) grows)
-    ∙ (ap (verdict_behind system_classes earlier all) (same e) ∙ ap (λ es. verdict_behind system_classes es all file) (sym (append-nil earlier))))
+    ∙ (ap (verdict_behind host earlier all) (same e) ∙ ap (λ es. verdict_behind host es all file) (sym (append-nil earlier))))
   where
     same : Some f ≡ Some file → f ≡ file
     same e = cc
@@ -186,14 +192,14 @@ verdict_from all earlier (f ∷ files) (suc k) file grows e =
     let next = next_guests earlier f in
     ap (λ w. slice_get (map (verdict_of_entry all) (entries_from w files)) k) next
     ∙ (verdict_from all (earlier ++ f ∷ []) files k file (subst (λ w. Grows (with_files w files) all) next grows) e
-    ∙ ap (λ es. Some (verdict_behind system_classes es all file)) (append_assoc earlier (f ∷ []) (take k files)))
+    ∙ ap (λ es. Some (verdict_behind host es all file)) (append_assoc earlier (f ∷ []) (take k files)))
 
 pub verdict_is : (files : List FileContent) (k : ℕ) → k < length files
-    → slice_get (map (verdict_of_entry (world_of system_classes files)) (entries_from system_world files)) k ≡ Some (load_verdict system_classes files k)
+    → slice_get (map (verdict_of_entry (world_of host files)) (entries_from system_world files)) k ≡ Some (load_verdict host files k)
 verdict_is files k h = by_file (slice_get files k) refl
   where
     all : World
-    all = world_of system_classes files
+    all = world_of host files
 
     clash : {x : FileContent} → Some x ≡ None → ⊥
     clash f = cc
@@ -203,15 +209,15 @@ verdict_is files k h = by_file (slice_get files k) refl
     there (x ∷ fs) j less e = clash (sym (slice_get-get_or (x ∷ fs) j x less) ∙ e)
 
     by_file : (o : Option FileContent) → slice_get files k ≡ o →
-        slice_get (map (verdict_of_entry (world_of system_classes files)) (entries_from system_world files)) k ≡
-        Some (load_verdict system_classes files k)
+        slice_get (map (verdict_of_entry (world_of host files)) (entries_from system_world files)) k ≡
+        Some (load_verdict host files k)
     by_file None e = absurd (there files k h e)
     by_file (Some file) e =
-        ap (λ w. slice_get (map (verdict_of_entry (world_of system_classes files)) (entries_from w files)) k) (sym no_guests)
-        ∙ (verdict_from (world_of system_classes files) [] files k file ([], sym (append-nil (with_files (guests []) files) ∙ (ap (λ w. with_files w files) no_guests ∙ world_is files))) e
+        ap (λ w. slice_get (map (verdict_of_entry (world_of host files)) (entries_from w files)) k) (sym no_guests)
+        ∙ (verdict_from (world_of host files) [] files k file ([], sym (append-nil (with_files (guests []) files) ∙ (ap (λ w. with_files w files) no_guests ∙ world_is files))) e
         ∙ ap (λ v. Some v) (sym (behind e)))
       where
-        behind : slice_get files k ≡ Some file → load_verdict system_classes files k ≡ verdict_behind system_classes (take k files) (world_of system_classes files) file
+        behind : slice_get files k ≡ Some file → load_verdict host files k ≡ verdict_behind host (take k files) (world_of host files) file
         behind e = rw e refl
 
 -- ---- lengths

@@ -4,6 +4,7 @@ pub mod Standing
 pub mod Contents
 pub mod InSystem
 pub mod Joining
+pub mod NoLibrary
 pub mod Putting
 pub mod Searching
 pub mod Straightness

@@ -7,6 +7,7 @@ use Rattle.std.proofs.lemmas.Bool.{ltb-true}
 use Rattle.jv_class.specs.Class.{Class}
 use Rattle.jv_meaning_world.specs.FileContent.{FileContent}
 use Rattle.jv_meaning_world.specs.System.Classes.{system_classes}
+use Rattle.jv_meaning_world.specs.Library.{with_library}
 use Rattle.jv_meaning_world.specs.System.Object.{object}
 use Rattle.jv_meaning_world.specs.World.{Loaded, World, loaded, class_named, classes_in, world_of}
 use Rattle.jv_meaning_world.specs.Above.{super_names, supers_in, above, is_circular}
@@ -61,12 +62,12 @@ all_below = refl
 
 module _ (files : List FileContent) where
   abbrev world : World
-  world = world_of system_classes files
+  world = world_of (with_library []) files
 
   super_is_below : (l s : Loaded) → Contains world l → IsTrue l.by_system → Contains (supers_in world l.class) s → rank s.class.name < rank l.class.name
   unfolding below_it
   super_is_below l s h t k =
-      let known = of_system (classes_in files) l h t in
+      let known = of_system (classes_in (with_library []) files) l h t in
       let found = found_super world l.class s k in
       let lower = each_passes below_it system_classes known.0 all_below known.1 in
       let here = each_passes (λ name. nat_lt (rank name) (rank known.0.name)) (super_names known.0) found.0 lower

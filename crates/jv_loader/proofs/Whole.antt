@@ -4,10 +4,11 @@ use Rattle.std.specs.Prelude.{slice_get}
 use Rattle.std.specs.List.{All}
 use Rattle.std.proofs.lemmas.List.{length-map}
 use Rattle.jv_meaning_world.specs.FileContent.{FileContent, AreContents}
-use Rattle.jv_meaning_world.specs.System.Classes.{system_classes}
+use Rattle.jv_meaning_world.specs.Library.{with_library}
 use Rattle.jv_meaning_world.specs.declared.verdict.LoadVerdict.{LoadVerdict}
 use Rattle.jv_meaning_world.specs.World.{World, world_of}
 use Rattle.jv_meaning_world.specs.Laws.Above.{SystemStandsAlone}
+use Rattle.jv_meaning_world.proofs.Libraries.{no_library_is_one}
 use Rattle.jv_loader.specs.Loading.{AreLoaded}
 use Rattle.jv_loader.specs.Inside.System.{system_world}
 use Rattle.jv_loader.specs.Inside.Files.{ArePut, with_files, entries_from, verdict_of_entry, IsPlace, IsOfFiles}
@@ -18,7 +19,7 @@ module _ (files : List (List ℕ)) (before after : World) (entries : List (Resul
   put_world : after ≡ with_files system_world put.contents
   put_world = put.world ∙ ap (λ w. with_files w put.contents) start
 
-  whole_world : after ≡ world_of system_classes put.contents
+  whole_world : after ≡ world_of (with_library []) put.contents
   whole_world = put_world ∙ world_is put.contents
 
   whole_entries : entries ≡ entries_from system_world put.contents
@@ -39,10 +40,12 @@ module _ (files : List (List ℕ)) (before after : World) (entries : List (Resul
   read_as_many (b ∷ bytes) [] h = absurd h
   read_as_many (b ∷ bytes) (f ∷ contents) h = ap suc (read_as_many bytes contents h.1)
 
-  pub loaded_all : (verdicts : List (Option LoadVerdict)) → verdicts ≡ map (verdict_of_entry after) entries → AreLoaded files (record { world = after; verdicts = verdicts })
+  pub loaded_all : (verdicts : List (Option LoadVerdict)) → verdicts ≡ map (verdict_of_entry after) entries → AreLoaded [] files (record { world = after; verdicts = verdicts })
   loaded_all verdicts e =
       let same = read_as_many files put.contents put.read in
       record {
+        given = [];
+        gives = no_library_is_one;
         contents = put.contents;
         read = put.read;
         world = whole_world;

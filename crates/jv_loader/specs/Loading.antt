@@ -1,7 +1,8 @@
 -- A guest's classes, loaded (JVMS 5.3).
 use Rattle.std.specs.Prelude.{◌≡◌, ℕ, ◌<◌, List, length, Option, Some, slice_get}
+use Rattle.jv_class.specs.Class.{Class}
 use Rattle.jv_meaning_world.specs.FileContent.{FileContent, AreContents}
-use Rattle.jv_meaning_world.specs.System.Classes.{system_classes}
+use Rattle.jv_meaning_world.specs.Library.{IsLibrary, with_library}
 use Rattle.jv_meaning_world.specs.declared.verdict.LoadVerdict.{LoadVerdict}
 use Rattle.jv_meaning_world.specs.World.{World, world_of}
 use Rattle.jv_meaning_world.specs.Verdicts.{load_verdict}
@@ -12,10 +13,13 @@ pub record Loading : Type 0 where
   pub world : World
   pub verdicts : List (Option LoadVerdict)
 
--- what these files make: their classes behind the system's, and the verdict on each
-pub record AreLoaded (files : List (List ℕ)) (loading : Loading) : Type 0 where
+-- what these files make behind a library: their classes behind those that a host gives, and the verdict on each
+pub record AreLoaded (library files : List (List ℕ)) (loading : Loading) : Type 0 where
+  pub given : List Class
+  pub gives : IsLibrary library given
   pub contents : List FileContent
   pub read : AreContents files contents
-  pub world : loading.world ≡ world_of system_classes contents
+  pub world : loading.world ≡ world_of (with_library given) contents
   pub count : length loading.verdicts ≡ length files
-  pub verdict : (place : ℕ) → place < length files → slice_get loading.verdicts place ≡ Some (load_verdict system_classes contents place)
+  pub verdict :
+      (place : ℕ) → place < length files → slice_get loading.verdicts place ≡ Some (load_verdict (with_library given) contents place)

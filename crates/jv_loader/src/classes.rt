@@ -1,6 +1,6 @@
 //! A guest's classes, loaded.
 
-ghost use Rattle.std.specs.Prelude.{◌≡◌, ◌<◌, Some, IfOk, IfSome, length, slice_get};
+ghost use Rattle.std.specs.Prelude.{◌≡◌, ◌<◌, [], Some, IfOk, IfSome, length, slice_get};
 ghost use Rattle.jv_meaning_world.specs.LookUps.{lookup_field, lookup_method, is_subclass};
 ghost use Rattle.jv_meaning_world.specs.Numbers.{HoldsAtBoth, HoldsAtNumber, number_named, superclass_number};
 ghost use Rattle.jv_lookups.specs.Places.{IsFieldPlace, IsMethodPlace, IsFieldLookedUp, IsMethodLookedUp};
@@ -81,7 +81,7 @@ impl<'a> Classes<'a> {
         system: &'a SystemFiles,
         files: &'a [&'a [u8]],
     ) -> Result<Classes<'a>, OutOfMemory>
-        ensures { IfOk result (λ classes. AreLoaded (texts_of files.now) classes) }
+        ensures { IfOk result (λ classes. AreLoaded [] (texts_of files.now) classes) }
     {
         let mut list = system_list(alloc, state, system)?;
         let entries = put_files(alloc, state, &mut list, files)?;

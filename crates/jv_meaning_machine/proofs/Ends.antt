@@ -52,7 +52,7 @@ module _ (G : ClassStates → ℕ → List Frame → Type 0) (kept : IsKept G) (
       (λ error e. start_with_goes program main b (start_memory program.world input b error) (main_method program.world main) own)
 
   pub alone_goes :
-      (judged : Judged) (g : GuestFiles) (b : Budget) (feeds : List Feed) (n : ℕ) (s : State) → IsJudged g.files judged
+      (judged : Judged) (g : GuestFiles) (b : Budget) (feeds : List Feed) (n : ℕ) (s : State) → IsJudged g.library g.files judged
       → alone judged g b feeds n ≡ Ok s → Went G kept s
   alone_goes judged g b feeds n s right e =
       (alone_keeps judged g b feeds (Went G kept) (λ s t h f. step_goes G kept judged.program s t h f) (λ bytes s h. h)
@@ -60,7 +60,9 @@ module _ (G : ClassStates → ℕ → List Frame → Type 0) (kept : IsKept G) (
       s e
     where
       own : MainIsOwn judged.program.world g.main
-      own d f = main_is_its_own right.contents g.main d (subst (λ (w : World). main_method w g.main ≡ Some d) right.world f)
+      own d f =
+          (main_is_its_own g.library right.given right.contents g.main d right.gives
+          (subst (λ (w : World). main_method w g.main ≡ Some d) right.world f)).0
 
 -- ---- the laws
 

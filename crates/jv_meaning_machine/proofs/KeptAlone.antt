@@ -4,7 +4,7 @@ use Rattle.std.specs.Option.{option_map}
 use Rattle.std.proofs.lemmas.List.{length-map}
 use Rattle.std.proofs.lemmas.Option.{slice_get-map}
 use Rattle.std.proofs.lemmas.List.Sums.{sum_by-cons}
-use Rattle.jv_meaning_world.specs.System.Classes.{system_classes}
+use Rattle.jv_meaning_world.specs.Library.{with_library}
 use Rattle.jv_meaning_world.specs.World.{Loaded, World, class_named, world_of}
 use Rattle.jv_meaning_world.specs.Overriding.{Declared}
 use Rattle.jv_meaning_typing.specs.Named.{class_components}
@@ -188,15 +188,16 @@ cost_in world (Some l) = start_cells world l
 
 pub first_objects_cost : FirstObjectsCost
 unfolding cost_in
-first_objects_cost contents error e = sym (ap (cost_in (world_of system_classes contents)) e)
+first_objects_cost [] contents error e = sym (ap (cost_in (world_of (with_library []) contents)) e)
+first_objects_cost (first ∷ more) contents error e = sym (ap (cost_in (world_of (with_library (first ∷ more)) contents)) e)
 
 pub cells_are_budgeted : CellsAreBudgeted
 cells_are_budgeted judged g b feeds n s right room e =
     let known : IsFromStart judged.program g.input b s = (alone_leads judged g b feeds n).at s e in
-    let named : class_named (world_of system_classes right.contents) (codes "java/lang/OutOfMemoryError") ≡ Some known.error =
+    let named : class_named (world_of (with_library right.given) right.contents) (codes "java/lang/OutOfMemoryError") ≡ Some known.error =
     ap (λ (w : World). class_named w (codes "java/lang/OutOfMemoryError")) (sym right.world) ∙ known.named in
     let cost : start_cells judged.program.world known.error ≡ first_cells =
-    ap (λ (w : World). start_cells w known.error) right.world ∙ first_objects_cost right.contents known.error named in
+    ap (λ (w : World). start_cells w known.error) right.world ∙ first_objects_cost right.given right.contents known.error named in
     let first : used_cells (start_memory judged.program.world g.input b known.error) ≡ start_cells judged.program.world known.error =
     start_cells_used judged.program.world g.input b known.error in
     let kept :

@@ -1,18 +1,24 @@
--- The system's classes have no main method, so a main method is one of the guest's own classes.
-use Rattle.std.proofs.Common.{◌≡◌, Bool, true, false, not, cond, ◌&&◌, ◌||◌, List, [], ◌∷◌, map, Option, Some, None, refl, sym, ap, subst, ◌∙◌, true≢false, codes}
-use Rattle.std.specs.Prelude.{is_none, unwrap_or}
-use Rattle.std.specs.List.{find, list_all}
+-- The classes of the system and of a library have no main method, so a main method is one of the guest's own classes.
+use Rattle.std.proofs.Common.{◌≡◌, ℕ, Bool, true, false, not, cond, ◌&&◌, List, [], ◌∷◌, ◌++◌, map, Option, Some, None, refl, sym, ap, subst, ◌∙◌, true≢false, inl, inr, codes}
+use Rattle.std.specs.Prelude.{◌⊎◌, is_none, is_some}
+use Rattle.std.specs.List.{Contains, find, list_all}
 use Rattle.std.specs.Option.{option_and_then, option_map}
 use Rattle.std.specs.Str.{bytes_eq}
-use Rattle.std.proofs.lemmas.List.Folds.{list_all-append}
+use Rattle.std.proofs.lemmas.List.Elements.{All-contains, Contains-append_cases}
+use Rattle.jv_meaning_world.specs.Library.{IsLibrary, borrowers, borrowers_more, lender, lent, system_with, with_library, with_methods_of}
 use Rattle.jv_meaning_world.specs.System.Classes.{system_classes}
+use Rattle.jv_meaning_world.specs.System.Io.{io}
 use Rattle.jv_class.specs.Class.{Class, Method, method_named}
 use Rattle.jv_meaning_world.specs.FileContent.{FileContent}
-use Rattle.jv_meaning_world.specs.World.{Loaded, World, loaded, class_named, classes_in, world_of}
+use Rattle.jv_meaning_world.specs.World.{Loaded, World, loaded, class_named, classes_in, has_class, world_of}
 use Rattle.jv_meaning_world.specs.Overriding.{Declared}
-use Rattle.jv_meaning_world.specs.Verdicts.{declared_by, is_loadable}
 use Rattle.jv_meaning_world.specs.LookUps.{method_in, method_if}
-use Rattle.jv_meaning_machine.specs.Initialization.{is_main, main_in}
+use Rattle.jv_meaning_world.specs.Verdicts.{is_loadable, declared_by}
+use Rattle.jv_meaning_world.proofs.Up.{none, single, named_stands}
+use Rattle.jv_meaning_world.proofs.OrderChains.{all_at}
+use Rattle.jv_meaning_world.proofs.OrderWorlds.{in_library, in_mapped}
+use Rattle.jv_meaning_world.proofs.Libraries.{IsFree, joined_free, lender_stands, not_of_library}
+use Rattle.jv_meaning_machine.specs.Initialization.{is_main, main_in, main_method}
 use Rattle.jv_meaning_machine.specs.Laws.Mains.{NoMainWithoutFiles, MainIsItsOwn}
 
 -- nothing is found where each element has nothing
@@ -39,81 +45,125 @@ module _ {A B : Type 0} (look : A → Option B) (test : A → Bool) where
 
 pub no_main_without_files : NoMainWithoutFiles
 no_main_without_files name =
-    none_found (main_in (world_of system_classes [])) (λ l. bytes_eq l.class.name name) (world_of system_classes []) refl
+    none_found (main_in (world_of (with_library []) [])) (λ l. bytes_eq l.class.name name) (world_of (with_library []) []) refl
 
--- ---- a main method is one of the guest's own classes
+-- ---- no class of the system's has a method that could be main, whatever a library lends it
 
--- a class is none of the system's, or has no method that could be main
-unfoldable plain : Loaded → Bool
-plain l = not l.by_system || is_none (method_in (codes "main") (codes "([Ljava/lang/String;)V") l)
+abbrev has_main : Class → Bool
+has_main c = is_some (method_named c (codes "main") (codes "([Ljava/lang/String;)V"))
 
-system_plain : list_all plain (map (loaded true) system_classes) ≡ true
-unfolding plain
-system_plain = refl
+abbrev has_none : Class → Bool
+has_none c = not (has_main c)
 
-guests_plain : (classes : List Class) → list_all plain (map (loaded false) classes) ≡ true
-unfolding plain
-guests_plain [] = refl
-guests_plain (c ∷ classes) = guests_plain classes
+denied : (b : Bool) → not b ≡ true → b ≡ false
+denied true h = absurd (true≢false (sym h))
+denied false h = refl
 
-all_plain : (contents : List FileContent) → list_all plain (world_of system_classes contents) ≡ true
-all_plain contents =
-    list_all-append plain (map (loaded true) system_classes) (map (loaded false) (classes_in contents))
-    ∙ ap (λ (b : Bool). b && list_all plain (map (loaded false) (classes_in contents))) system_plain
-    ∙ guests_plain (classes_in contents)
+module _ (library : List Class) (mainless : (c : Class) → Contains library c → has_main c ≡ false) where
+  lent_none : (c : Class) → has_main c ≡ false → has_main (lent library c) ≡ false
+  lent_none c own = by_lender (lender_stands library c)
+    where
+      by_lender : (lender library c ≡ c) ⊎ Contains library (lender library c) → has_main (lent library c) ≡ false
+      by_lender (inl e) = subst (λ (x : Class). has_main (with_methods_of x c) ≡ false) (sym e) own
+      by_lender (inr k) = mainless (lender library c) k
 
--- what is found among classes passes what they all pass
-found_passes :
-    (test passes : Loaded → Bool) (all : World) (l : Loaded) → list_all passes all ≡ true → find test all ≡ Some l → passes l ≡ true
-found_passes test passes [] l h e = absurd cc
-found_passes test passes (a ∷ more) l h e =
-    let parts : (passes a ≡ true) × (list_all passes more ≡ true) = both_true (passes a) (list_all passes more) h in
-    by_test (test a) e parts.0 (found_passes test passes more l parts.1)
+  all_lent : (own : List Class) → list_all has_none own ≡ true → (c : Class) → Contains (map (lent library) own) c → has_main c ≡ false
+  all_lent [] all c h = absurd (none c h)
+  all_lent (x ∷ own) all c h =
+      by_part (λ k. all_lent own (both_true (has_none x) (list_all has_none own) all).1 c k)
+      (Contains-append_cases (lent library x ∷ []) (map (lent library) own) c h)
+    where
+      both_true : (a b : Bool) → (a && b) ≡ true → (a ≡ true) × (b ≡ true)
+      both_true true b f = (refl, f)
+      both_true false b f = absurd (true≢false (sym f))
+
+      by_part : (Contains (map (lent library) own) c → has_main c ≡ false) → Contains (lent library x ∷ []) c ⊎ Contains (map (lent library) own) c
+          → has_main c ≡ false
+      by_part again (inl k) =
+          subst (λ (y : Class). has_main y ≡ false) (single (lent library x) c k)
+          (lent_none x (denied (has_main x) (both_true (has_none x) (list_all has_none own) all).0))
+      by_part again (inr k) = again k
+
+alone_none : list_all has_none system_classes ≡ true
+alone_none = refl
+
+borrowers_none : list_all has_none borrowers ≡ true
+borrowers_none = refl
+
+more_none : list_all has_none borrowers_more ≡ true
+more_none = refl
+
+io_none : has_main io ≡ false
+io_none = refl
+
+system_none : (library : List Class) → ((c : Class) → Contains library c → has_main c ≡ false) → (c : Class) → Contains (system_with library) c → has_main c ≡ false
+system_none [] mainless c h = denied (has_main c) (all_at has_none system_classes c alone_none h)
+system_none (one ∷ more) mainless c h = by_part (Contains-append_cases (map (lent (one ∷ more)) borrowers) (io ∷ map (lent (one ∷ more)) borrowers_more) c h)
   where
-    both_true : (a b : Bool) → (a && b) ≡ true → (a ≡ true) × (b ≡ true)
-    both_true true b f = (refl, f)
-    both_true false b f = absurd (true≢false (sym f))
+    by_rest : Contains (io ∷ []) c ⊎ Contains (map (lent (one ∷ more)) borrowers_more) c → has_main c ≡ false
+    by_rest (inl k) = subst (λ (y : Class). has_main y ≡ false) (single io c k) io_none
+    by_rest (inr k) = all_lent (one ∷ more) mainless borrowers_more more_none c k
 
-    by_test :
-        (b : Bool) → cond b (Some a) (find test more) ≡ Some l → passes a ≡ true → (find test more ≡ Some l → passes l ≡ true)
-        → passes l ≡ true
-    by_test true f here behind = let same : a ≡ l = cc in subst (λ (x : Loaded). passes x ≡ true) same here
-    by_test false f here behind = behind f
+    by_part : Contains (map (lent (one ∷ more)) borrowers) c ⊎ Contains (io ∷ map (lent (one ∷ more)) borrowers_more) c → has_main c ≡ false
+    by_part (inl k) = all_lent (one ∷ more) mainless borrowers borrowers_none c k
+    by_part (inr k) = by_rest (Contains-append_cases (io ∷ []) (map (lent (one ∷ more)) borrowers_more) c k)
 
--- a plain class with such a method is none of the system's
-own :
-    (l : Loaded) (m : Method) (by_system : Bool) → l.by_system ≡ by_system
-    → method_named l.class (codes "main") (codes "([Ljava/lang/String;)V") ≡ Some m → plain l ≡ true → by_system ≡ false
-unfolding plain
-own l m false e f h = refl
-own l m true e f h =
-    let known : (not true || is_none (option_map (declared_by l) (Some m))) ≡ true =
-    ap (λ (b : Bool). not b || is_none (option_map (declared_by l) (Some m))) (sym e)
-    ∙ ap (λ (o : Option Method). not l.by_system || is_none (option_map (declared_by l) o)) (sym f) ∙ h in
-    absurd (true≢false (sym known))
+-- ---- a class with one is a guest's
+
+abbrev IsOwn : List Class → Loaded → Type 0
+IsOwn library l = (l.by_system ≡ false) × (has_class library l.class.name ≡ false)
+
+clashing : {P : Type 0} (b : Bool) → b ≡ true → b ≡ false → P
+clashing b h k = absurd (true≢false (sym h ∙ k))
+
+with_main : (files : List (List ℕ)) (library : List Class) (contents : List FileContent) → IsLibrary files library → (l : Loaded)
+    → Contains (world_of (with_library library) contents) l → has_main l.class ≡ true → IsOwn library l
+with_main files library contents is l there main =
+    by_loader (Contains-append_cases (map (loaded true) (system_with library)) (map (loaded false) (classes_in (with_library library) contents)) l there)
+  where
+    mainless : (c : Class) → Contains library c → has_main c ≡ false
+    mainless c k = All-contains (λ (x : Class). has_main x ≡ false) library c is.none_is_main k
+
+    of_guest : (c : Class) → has_main c ≡ true → Contains (with_library library).front c ⊎ IsFree (with_library library).front c → IsOwn library (loaded false c)
+    of_guest c m (inl k) = clashing (has_main c) m (mainless c (in_library library c k))
+    of_guest c m (inr free) = (refl, not_of_library library c free)
+
+    by_loader : Contains (map (loaded true) (system_with library)) l ⊎ Contains (map (loaded false) (classes_in (with_library library) contents)) l → IsOwn library l
+    by_loader (inl k) =
+        let known = in_mapped true (system_with library) l k in
+        clashing (has_main l.class) main
+        (subst (λ (x : Loaded). has_main x.class ≡ false) known.2 (system_none library mainless known.0 known.1))
+    by_loader (inr k) =
+        let known = in_mapped false (classes_in (with_library library) contents) l k in
+        subst (λ (x : Loaded). IsOwn library x) known.2
+        (of_guest known.0 (subst (λ (x : Loaded). has_main x.class ≡ true) (sym known.2) main)
+        (joined_free (with_library library).front contents known.0 known.1))
+
+-- a main method in a class is its own, and the class has one
+main_of : (world : World) (l : Loaded) (d : Declared) → main_in world l ≡ Some d → (l ≡ d.by) × (has_main l.class ≡ true)
+main_of world l d e = by_loadable (is_loadable world l) e
+  where
+    by_test : (m : Method) (b : Bool) → cond b (Some (declared_by l m)) None ≡ Some d → l ≡ d.by
+    by_test m true f = let same : declared_by l m ≡ d = cc in ap (λ (x : Declared). x.by) same
+    by_test m false f = absurd cc
+
+    by_method : (o : Option Method) → method_named l.class (codes "main") (codes "([Ljava/lang/String;)V") ≡ o
+        → method_if is_main (option_map (declared_by l) o) ≡ Some d → (l ≡ d.by) × (has_main l.class ≡ true)
+    by_method None k f = absurd cc
+    by_method (Some m) k f = (by_test m (is_main (declared_by l m)) f, ap (λ (o : Option Method). is_some o) k)
+
+    by_loadable : (b : Bool) → (elim b [ false ↦ None | true ↦ method_if is_main (method_in (codes "main") (codes "([Ljava/lang/String;)V") l) ]) ≡ Some d
+        → (l ≡ d.by) × (has_main l.class ≡ true)
+    by_loadable true f = by_method (method_named l.class (codes "main") (codes "([Ljava/lang/String;)V")) refl f
+    by_loadable false f = absurd cc
 
 pub main_is_its_own : MainIsItsOwn
-main_is_its_own contents name d e = by_class (class_named (world_of system_classes contents) name) refl e
+main_is_its_own files library contents name d is e = by_class (class_named (world_of (with_library library) contents) name) refl e
   where
-    by_test :
-        (l : Loaded) (m : Method) (b : Bool) → cond b (Some (declared_by l m)) None ≡ Some d → l.by_system ≡ false → d.by.by_system ≡ false
-    by_test l m true f its = ap (λ (o : Option Declared). (unwrap_or o d).by.by_system) (sym f) ∙ its
-    by_test l m false f its = absurd cc
-
-    by_method : (l : Loaded) (o : Option Method) → method_named l.class (codes "main") (codes "([Ljava/lang/String;)V") ≡ o → plain l ≡ true
-        → method_if is_main (option_map (declared_by l) o) ≡ Some d → d.by.by_system ≡ false
-    by_method l None f h k = absurd cc
-    by_method l (Some m) f h k = by_test l m (is_main (declared_by l m)) k (own l m l.by_system refl f h)
-
-    by_loadable : (l : Loaded) (b : Bool) → plain l ≡ true
-        → (elim b [ false ↦ None | true ↦ method_if is_main (method_in (codes "main") (codes "([Ljava/lang/String;)V") l) ]) ≡ Some d → d.by.by_system ≡ false
-    by_loadable l true h k = by_method l (method_named l.class (codes "main") (codes "([Ljava/lang/String;)V")) refl h k
-    by_loadable l false h k = absurd cc
-
-    by_class :
-        (o : Option Loaded) → class_named (world_of system_classes contents) name ≡ o
-        → option_and_then (main_in (world_of system_classes contents)) o ≡ Some d → d.by.by_system ≡ false
+    by_class : (o : Option Loaded) → class_named (world_of (with_library library) contents) name ≡ o
+        → option_and_then (main_in (world_of (with_library library) contents)) o ≡ Some d → IsOwn library d.by
     by_class None f k = absurd cc
     by_class (Some l) f k =
-        by_loadable l (is_loadable (world_of system_classes contents) l)
-        (found_passes (λ l. bytes_eq l.class.name name) plain (world_of system_classes contents) l (all_plain contents) f) k
+        let main = main_of (world_of (with_library library) contents) l d k in
+        subst (λ (x : Loaded). IsOwn library x) main.0
+        (with_main files library contents is l (named_stands (world_of (with_library library) contents) name l f) main.1)

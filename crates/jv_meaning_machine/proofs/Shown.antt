@@ -1,12 +1,15 @@
 -- What is found of files is one thing, and so is what a guest shows.
-use Rattle.std.proofs.Common.{◌≡◌, ℕ, zero, suc, ◌+◌, ◌≤◌, add-zero, add-suc, true≢false, is_some, codes, List, [], ◌∷◌, length, Option, Some, None, Ok, refl, sym, ap, subst, ◌∙◌, arith}
+use Rattle.std.proofs.Common.{◌≡◌, ℕ, zero, suc, ◌+◌, ◌≤◌, add-zero, add-suc, true≢false, is_some, codes, List, [], ◌∷◌, ◌++◌, map, length, Option, Some, None, Ok, refl, sym, ap, subst, ◌∙◌, arith}
 use Rattle.std.specs.Prelude.{◌↔◌, Err, IsErr, slice_get}
 use mathlib.Core.Path.{fun_ext}
 use Rattle.jv_code.specs.Insns.{Instruction}
-use Rattle.jv_meaning_world.specs.System.Classes.{system_classes}
+use Rattle.jv_class.specs.Class.{Class}
+use Rattle.jv_meaning_world.specs.Library.{with_library}
 use Rattle.jv_meaning_world.specs.World.{Loaded, World, class_named, world_of}
+use Rattle.jv_meaning_world.proofs.Libraries.{no_library_is_one}
 use Rattle.jv_meaning_world.specs.Overriding.{Declared}
 use Rattle.jv_meaning_world.specs.FileContent.{FileContent, AreContents, OneContent}
+use Rattle.jv_meaning_world.specs.declared.content.Content.TheVariants.{Holds}
 use Rattle.jv_meaning_typing.specs.declared.verdict.Verdict.{Verdict}
 use Rattle.jv_meaning_typing.specs.Judgement.{IsVerdictOfFile}
 use Rattle.jv_meaning_typing.specs.Laws.{OneJudgementOfFile}
@@ -68,12 +71,35 @@ module _ (one_content : OneContent) (one_verdict : OneJudgementOfFile) where
 
   -- ---- all that is found
 
+  held_is : Option FileContent → Class → Class
+  held_is (Some (Holds c)) d = c
+  held_is _ d = d
+
+  first_of : List FileContent → Option FileContent
+  first_of [] = None
+  first_of (x ∷ a) = Some x
+
+  rest_of : List FileContent → List FileContent
+  rest_of [] = []
+  rest_of (x ∷ a) = a
+
+  one_held : (a b : List Class) → map Holds a ≡ map Holds b → a ≡ b
+  unfolding held_is first_of rest_of
+  one_held [] [] e = refl
+  one_held [] (d ∷ b) e = absurd cc
+  one_held (c ∷ a) [] e = absurd cc
+  one_held (c ∷ a) (d ∷ b) e =
+      ap (λ (x : Class). x ∷ a) (ap (λ (l : List FileContent). held_is (first_of l) c) e) ∙ ap (λ (xs : List Class). d ∷ xs) (one_held a b (ap rest_of e))
+
+  abbrev names_in_front : List Class → List (List ℕ)
+  names_in_front given = map (λ c. c.name) (with_library given).front
+
   abbrev made : World → List (List ℕ) → (List ℕ → Option (List Instruction)) → (List ℕ → Option (List ℕ)) → List Verdict → Judged
   made world accepted instructions units verdicts =
       record { program = record { world = world; accepted = accepted; instructions = instructions; units = units }; verdicts = verdicts }
 
   pub one_judged : OneJudged
-  one_judged files one other h k =
+  one_judged library files one other h k =
       ap (λ (w : World). made w one.program.accepted one.program.instructions one.program.units one.verdicts) world
       ∙ (ap (λ (n : List (List ℕ)). made other.program.world n one.program.instructions one.program.units one.verdicts) accepted
       ∙ (ap (λ (f : List ℕ → Option (List Instruction)). made other.program.world other.program.accepted f one.program.units one.verdicts) instructions
@@ -84,17 +110,25 @@ module _ (one_content : OneContent) (one_verdict : OneJudgementOfFile) where
       contents : h.contents ≡ k.contents
       contents = one_list files h.contents k.contents h.held k.held
 
+      given : h.given ≡ k.given
+      given = one_held h.given k.given (one_list library (map Holds h.given) (map Holds k.given) h.gives.held k.gives.held)
+
       world : one.program.world ≡ other.program.world
-      world = h.world ∙ (ap (world_of system_classes) contents ∙ sym k.world)
+      world = h.world ∙ (ap (λ (c : List FileContent). world_of (with_library h.given) c) contents
+          ∙ (ap (λ (cs : List Class). world_of (with_library cs) k.contents) given ∙ sym k.world))
 
       verdicts : one.verdicts ≡ other.verdicts
       verdicts = same_items one.verdicts other.verdicts (h.count ∙ (ap length contents ∙ sym k.count)) (λ place a b at there.
-          one_verdict system_classes h.contents place a b (h.verdict place a at)
-          (subst (λ (c : List FileContent). IsVerdictOfFile system_classes c place b) (sym contents) (k.verdict place b there)))
+          one_verdict (with_library h.given) h.contents place a b (h.verdict place a at)
+          (subst (λ (cs : List Class). IsVerdictOfFile (with_library cs) h.contents place b) (sym given)
+          (subst (λ (c : List FileContent). IsVerdictOfFile (with_library k.given) c place b) (sym contents) (k.verdict place b there))))
 
       accepted : one.program.accepted ≡ other.program.accepted
       accepted =
-          h.accepted ∙ (ap (λ (c : List FileContent). accepted_names c one.verdicts) contents ∙ (ap (accepted_names k.contents) verdicts ∙ sym k.accepted))
+          h.accepted
+          ∙ (ap (λ (cs : List Class). names_in_front cs ++ accepted_names h.contents one.verdicts) given
+          ∙ (ap (λ (c : List FileContent). names_in_front k.given ++ accepted_names c one.verdicts) contents
+          ∙ (ap (λ (v : List Verdict). names_in_front k.given ++ accepted_names k.contents v) verdicts ∙ sym k.accepted)))
 
       instructions : one.program.instructions ≡ other.program.instructions
       instructions = same_function _ one.program.instructions other.program.instructions h.instructions k.instructions
@@ -116,7 +150,7 @@ shows_one_thing law g b feeds n one other h k =
     ∙ (ap (observation k.judged.verdicts n) (same_state (alone k.judged g b feeds n) h.state k.state (subst (λ (j : Judged). alone j g b feeds n ≡ Ok h.state) same h.ran) k.ran) ∙ sym k.shown))
   where
     same : h.judged ≡ k.judged
-    same = law g.files h.judged k.judged h.right k.right
+    same = law g.library g.files h.judged k.judged h.right k.right
 
 no_fault : (r : OrFault State) (s : State) → r ≡ Ok s → IsErr r → ⊥
 no_fault (Ok t) s e f = absurd cc
@@ -125,7 +159,7 @@ no_fault (Err fault) s e f = absurd cc
 pub faults_show_nothing : OneJudged → FaultsShowNothing
 faults_show_nothing law g b feeds n o f h =
     no_fault (alone f.judged g b feeds n) h.state
-    (subst (λ (j : Judged). alone j g b feeds n ≡ Ok h.state) (law g.files h.judged f.judged h.right f.right) h.ran) f.fault
+    (subst (λ (j : Judged). alone j g b feeds n ≡ Ok h.state) (law g.library g.files h.judged f.judged h.right f.right) h.ran) f.fault
 
 pub ended_shows_the_same : EndedShowsTheSame
 ended_shows_the_same g b feeds n more o h ended = record {
@@ -140,17 +174,19 @@ ended_shows_the_same g b feeds n more o h ended = record {
 -- ---- what there is to be found
 
 abbrev pub judged_by_verdicts : JudgedByVerdicts
-judged_by_verdicts files contents verdicts held count right = (
+judged_by_verdicts library files given contents verdicts gives held count right = (
   record {
     program = record {
-      world = world_of system_classes contents;
-      accepted = accepted_names contents verdicts;
+      world = world_of (with_library given) contents;
+      accepted = map (λ c. c.name) (with_library given).front ++ accepted_names contents verdicts;
       instructions = instructions_in;
       units = units_in;
     };
     verdicts = verdicts;
   },
   record {
+    given = given;
+    gives = gives;
     contents = contents;
     held = held;
     world = refl;
@@ -170,41 +206,41 @@ from_zero judged g b feeds n =
     let same : n ≡ zero + n = omega arith in
     ap (λ (k : ℕ). alone judged g b feeds k) same
 
-no_verdict : (place : ℕ) (verdict : Verdict) → slice_get [] place ≡ Some verdict → IsVerdictOfFile system_classes [] place verdict
+no_verdict : (place : ℕ) (verdict : Verdict) → slice_get [] place ≡ Some verdict → IsVerdictOfFile (with_library []) [] place verdict
 no_verdict zero verdict e = absurd cc
 no_verdict (suc place) verdict e = absurd cc
 
-abbrev found_none : (judged : Judged) × IsJudged [] judged × (judged.verdicts ≡ [])
-found_none = judged_by_verdicts [] [] [] tt refl no_verdict
+abbrev found_none : (judged : Judged) × IsJudged [] [] judged × (judged.verdicts ≡ [])
+found_none = judged_by_verdicts [] [] [] [] [] no_library_is_one tt refl no_verdict
 
 pub shows_no_main : ShowsNoMain
-shows_no_main main input b feeds n = by_class (class_named (world_of system_classes []) (codes "java/lang/OutOfMemoryError")) refl
+shows_no_main main input b feeds n = by_class (class_named (world_of (with_library []) []) (codes "java/lang/OutOfMemoryError")) refl
   where
     by_class :
-        (o : Option Loaded) → class_named (world_of system_classes []) (codes "java/lang/OutOfMemoryError") ≡ o
-        → Shows (record { files = []; main = main; input = input }) b feeds n
+        (o : Option Loaded) → class_named (world_of (with_library []) []) (codes "java/lang/OutOfMemoryError") ≡ o
+        → Shows (record { library = []; files = []; main = main; input = input }) b feeds n
         (record { verdicts = []; steps = n; output = []; throws = 0; last = None; end = NoMain })
     by_class None e = absurd (true≢false (ap (λ (o : Option Loaded). is_some o) e))
     by_class (Some error) e =
-        let first : State = state_of (start_memory (world_of system_classes []) input b error) [] (start_control main b NoMain) in
+        let first : State = state_of (start_memory (world_of (with_library []) []) input b error) [] (start_control main b NoMain) in
         let started :
         start found_none.0.program main input b
-        ≡ Ok (state_of (start_memory (world_of system_classes []) input b error) [] (start_control main b NoMain)) =
+        ≡ Ok (state_of (start_memory (world_of (with_library []) []) input b error) [] (start_control main b NoMain)) =
         ap
         (λ (o : Option Loaded).
         found ReferenceFault o >>= λ l.
-        start_with found_none.0.program main b (start_memory (world_of system_classes []) input b l)
-        (main_method (world_of system_classes []) main))
+        start_with found_none.0.program main b (start_memory (world_of (with_library []) []) input b l)
+        (main_method (world_of (with_library []) []) main))
         e
-        ∙ ap (λ (d : Option Declared). start_with found_none.0.program main b (start_memory (world_of system_classes []) input b error) d)
+        ∙ ap (λ (d : Option Declared). start_with found_none.0.program main b (start_memory (world_of (with_library []) []) input b error) d)
         (no_main_without_files main) in
         record {
           judged = found_none.0;
           right = found_none.1;
           state = fed (came_behind zero n feeds) (fed (came_at zero feeds) first);
           ran =
-              from_zero found_none.0 (record { files = []; main = main; input = input }) b feeds n
-              ∙ stays_fed found_none.0 (record { files = []; main = main; input = input }) b feeds zero n (fed (came_at zero feeds) first)
+              from_zero found_none.0 (record { library = []; files = []; main = main; input = input }) b feeds n
+              ∙ stays_fed found_none.0 (record { library = []; files = []; main = main; input = input }) b feeds zero n (fed (came_at zero feeds) first)
               (ap (λ (o : OrFault State). o >>= λ s. Ok (fed (came_at zero feeds) s)) started) refl;
           shown = refl;
         }

@@ -1,23 +1,26 @@
 -- A guest alone (own): what its own files, main class name, input, feeds and budget give on the machine, after some number of
 -- steps; and what of its files is found before that (JVMS 4.10, 5.3).
-use Rattle.std.specs.Prelude.{◌≡◌, ◌↔◌, ℕ, zero, suc, ◌==◌, if◌then◌else◌, List, [], ◌∷◌, ◌++◌, length, Option, Some, Ok, slice_get}
+use Rattle.std.specs.Prelude.{◌≡◌, ◌↔◌, ℕ, zero, suc, ◌==◌, if◌then◌else◌, List, [], ◌∷◌, ◌++◌, length, map, Option, Some, Ok, false, true, slice_get}
+use Rattle.std.specs.List.{All}
 use Rattle.jv_text.specs.Text.{Spells}
+use Rattle.jv_class.specs.Class.{Class}
 use Rattle.jv_code.specs.Insns.{Instruction}
 use Rattle.jv_code.specs.Places.{IsCode}
 use Rattle.jv_meaning_world.specs.FileContent.{FileContent, AreContents}
 use Rattle.jv_meaning_world.specs.declared.content.Content.TheVariants.{Holds}
-use Rattle.jv_meaning_world.specs.World.{world_of}
-use Rattle.jv_meaning_world.specs.System.Classes.{system_classes}
+use Rattle.jv_meaning_world.specs.Library.{IsLibrary, with_library}
+use Rattle.jv_meaning_world.specs.World.{HostClasses, World, loaded, world_of}
 use Rattle.jv_meaning_typing.specs.declared.verdict.Verdict.{Verdict}
 use Rattle.jv_meaning_typing.specs.declared.verdict.Verdict.TheVariants.{Accepted}
-use Rattle.jv_meaning_typing.specs.Judgement.{IsVerdictOfFile}
+use Rattle.jv_meaning_typing.specs.Judgement.{IsVerdictOfClass, IsVerdictOfFile}
 use Rattle.jv_meaning_machine.specs.Faults.{OrFault, ◌>>=◌}
 use Rattle.jv_meaning_machine.specs.State.{Program, State}
 use Rattle.jv_meaning_machine.specs.Start.{Budget, start}
 use Rattle.jv_meaning_machine.specs.Step.{step}
 
--- a guest's class files, the name of its main class, and its input before anything is fed
+-- the class files of its host's library, a guest's own, the name of its main class, and its input before anything is fed
 pub record GuestFiles : Type 0 where
+  pub library : List (List ℕ)
   pub files : List (List ℕ)
   pub main : List ℕ
   pub input : List ℕ
@@ -45,18 +48,26 @@ FindsInstructions instructions = (bytes : List ℕ) (all : List Instruction) →
 abbrev pub AreUnits : (List ℕ → Option (List ℕ)) → Type 0
 AreUnits units = (bytes all : List ℕ) → (units bytes ≡ Some all) ↔ Spells all bytes
 
--- this is what is to be found of files: the classes that they hold beside the system's, and a verdict on each
-pub record IsJudged (files : List (List ℕ)) (judged : Judged) : Type 0 where
+-- This is what is to be found of a guest's files behind those of a library: the classes that both hold beside the system's, and a verdict
+-- on each of the guest's. The library's count as accepted.
+pub record IsJudged (library files : List (List ℕ)) (judged : Judged) : Type 0 where
+  pub given : List Class
+  pub gives : IsLibrary library given
   pub contents : List FileContent
   pub held : AreContents files contents
-  pub world : judged.program.world ≡ world_of system_classes contents
+  pub world : judged.program.world ≡ world_of (with_library given) contents
   pub count : length judged.verdicts ≡ length contents
   pub verdict :
       (place : ℕ) (verdict : Verdict) → slice_get judged.verdicts place ≡ Some verdict
-      → IsVerdictOfFile system_classes contents place verdict
-  pub accepted : judged.program.accepted ≡ accepted_names contents judged.verdicts
+      → IsVerdictOfFile (with_library given) contents place verdict
+  pub accepted : judged.program.accepted ≡ map (λ c. c.name) (with_library given).front ++ accepted_names contents judged.verdicts
   pub instructions : FindsInstructions judged.program.instructions
   pub units : AreUnits judged.program.units
+
+-- In a world the classes that a host gives are accepted: those of the system, which are lent methods, and those in front.
+pub record Stands (world : World) (host : HostClasses) : Type 0 where
+  pub system : All (λ c. IsVerdictOfClass world (loaded true c) Accepted) host.system
+  pub front : All (λ c. IsVerdictOfClass world (loaded false c) Accepted) host.front
 
 -- ---- feeds: what comes to a guest's input while it runs
 

@@ -27,7 +27,7 @@ observation verdicts n s = record {
 -- A guest that is fed so shows this after n of its own steps, alone.
 pub record Shows (g : GuestFiles) (b : Budget) (feeds : List Feed) (n : ℕ) (o : Observed) : Type 0 where
   pub judged : Judged
-  pub right : IsJudged g.files judged
+  pub right : IsJudged g.library g.files judged
   pub state : State
   pub ran : alone judged g b feeds n ≡ Ok state
   pub shown : o ≡ observation judged.verdicts n state
@@ -35,5 +35,5 @@ pub record Shows (g : GuestFiles) (b : Budget) (feeds : List Feed) (n : ℕ) (o 
 -- The machine meets a fault within n of the guest's own steps.
 pub record FaultsWithin (g : GuestFiles) (b : Budget) (feeds : List Feed) (n : ℕ) : Type 0 where
   pub judged : Judged
-  pub right : IsJudged g.files judged
+  pub right : IsJudged g.library g.files judged
   pub fault : IsErr (alone judged g b feeds n)

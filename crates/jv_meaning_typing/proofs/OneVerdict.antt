@@ -97,5 +97,5 @@ of_content lists maps world None (Some NoClassFile) v w h k = absurd h
 of_content lists maps world None (Some MoreThanProfile) v w h k = absurd h
 
 pub one_judgement_of_file : OneList → OneMaps → OneJudgementOfFile
-one_judgement_of_file lists maps system files place v w h k =
-    of_content lists maps (world_of system files) (load_verdict system files place) (slice_get files place) v w h k
+one_judgement_of_file lists maps host files place v w h k =
+    of_content lists maps (world_of host files) (load_verdict host files place) (slice_get files place) v w h k

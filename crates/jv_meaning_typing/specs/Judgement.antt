@@ -1,11 +1,11 @@
 -- What is found of a method, of a class and of a file (JVMS 4.10): a typing, or the first rule that is broken.
 use Rattle.std.specs.Prelude.{◌≡◌, ℕ, ◌≤◌, false, List, length, slice_get, Option, Some, None, IsSome, IsTrue, not, take}
 use Rattle.std.specs.List.{All}
-use Rattle.jv_class.specs.Class.{Class, Method}
+use Rattle.jv_class.specs.Class.{Method}
 use Rattle.jv_code.specs.Insns.{Instruction}
 use Rattle.jv_meaning_world.specs.FileContent.{FileContent}
 use Rattle.jv_meaning_world.specs.declared.content.Content.TheVariants.{Holds}
-use Rattle.jv_meaning_world.specs.World.{Loaded, World, loaded, world_of}
+use Rattle.jv_meaning_world.specs.World.{HostClasses, Loaded, World, loaded, world_of}
 use Rattle.jv_meaning_world.specs.declared.verdict.LoadVerdict.{LoadVerdict}
 use Rattle.jv_meaning_world.specs.Verdicts.{verdict_of_class, load_verdict, declared_by}
 use Rattle.jv_meaning_typing.specs.Uses.{Site}
@@ -123,6 +123,6 @@ IsVerdictOfContent world (Some why) content verdict = verdict ≡ verdicts.Refus
 IsVerdictOfContent world None content verdict = ⊥
 
 -- of the file of a guest at a place, the first at 0
-abbrev pub IsVerdictOfFile : List Class → List FileContent → ℕ → Verdict → Type 0
-IsVerdictOfFile system files place verdict =
-    IsVerdictOfContent (world_of system files) (load_verdict system files place) (slice_get files place) verdict
+abbrev pub IsVerdictOfFile : HostClasses → List FileContent → ℕ → Verdict → Type 0
+IsVerdictOfFile host files place verdict =
+    IsVerdictOfContent (world_of host files) (load_verdict host files place) (slice_get files place) verdict

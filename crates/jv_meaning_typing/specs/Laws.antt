@@ -3,9 +3,8 @@ use Rattle.std.specs.Prelude.{◌≡◌, ◌↔◌, ℕ, ◌<◌, List, Some}
 use Rattle.jv_stackmap.specs.Frames.{Frame, PlacedFrame}
 use Rattle.jv_code.specs.Insns.{Instruction}
 use Rattle.jv_code.specs.Places.{IsAt}
-use Rattle.jv_class.specs.Class.{Class}
 use Rattle.jv_meaning_world.specs.FileContent.{FileContent}
-use Rattle.jv_meaning_world.specs.World.{Loaded, World}
+use Rattle.jv_meaning_world.specs.World.{HostClasses, Loaded, World}
 use Rattle.jv_meaning_typing.specs.Uses.{Site}
 use Rattle.jv_meaning_typing.specs.declared.verdict.VerifyRule.{VerifyRule}
 use Rattle.jv_meaning_typing.specs.declared.verdict.Verdict.{Verdict}
@@ -53,5 +52,5 @@ OneJudgement = (world : World) (l : Loaded) (v w : Verdict) → IsVerdictOfClass
 -- A law: a file of a guest has one verdict at most.
 abbrev pub OneJudgementOfFile : Type 0
 OneJudgementOfFile =
-    (system : List Class) (files : List FileContent) (place : ℕ) (v w : Verdict) → IsVerdictOfFile system files place v
-    → IsVerdictOfFile system files place w → v ≡ w
+    (host : HostClasses) (files : List FileContent) (place : ℕ) (v w : Verdict) → IsVerdictOfFile host files place v
+    → IsVerdictOfFile host files place w → v ≡ w

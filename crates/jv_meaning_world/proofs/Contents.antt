@@ -13,7 +13,6 @@ use Rattle.jv_class.specs.ClassFile.{OneStructure, IsClassFile, class_name}
 use Rattle.jv_class_structure.specs.Parts.{methods_of}
 use Rattle.jv_class.specs.Supported.{IsSupported}
 use Rattle.jv_meaning_world.specs.FileContent.{HasNoUnsupportedCode, IsProfileClass, IsContent, OneContent}
-use Rattle.jv_meaning_world.specs.declared.content.Content.{Content}
 use Rattle.jv_meaning_world.specs.declared.content.Content.TheVariants.{OtherVersion, NoClassFile, MoreThanProfile, Holds}
 
 some_same : (a b : Class) → Some a ≡ Some b → a ≡ b

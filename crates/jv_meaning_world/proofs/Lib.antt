@@ -1,4 +1,5 @@
 pub mod Contents
+pub mod Libraries
 pub mod Order
 pub mod OrderAbove
 pub mod OrderChains

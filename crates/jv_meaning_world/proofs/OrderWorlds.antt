@@ -15,7 +15,8 @@ use Rattle.jv_class.specs.ClassFile.{class_name}
 use Rattle.jv_class.specs.Rules.{is_object, is_no_array_name, KeepsRulesAsName, ItselfKeepsRules}
 use Rattle.jv_meaning_world.specs.FileContent.{FileContent, IsContent, AreContents}
 use Rattle.jv_meaning_world.specs.declared.content.Content.TheVariants.{OtherVersion, NoClassFile, MoreThanProfile, Holds}
-use Rattle.jv_meaning_world.specs.World.{Loaded, World, loaded, class_named, is_reserved, has_class, with_class_of, joined_all, classes_in, world_of}
+use Rattle.jv_meaning_world.specs.World.{HostClasses, Loaded, World, loaded, class_named, is_reserved, has_class, with_class_of, joined_all, classes_in, world_of}
+use Rattle.jv_meaning_world.specs.Library.{IsLibrary, front_of, system_with, with_class_more, with_library}
 use Rattle.jv_meaning_world.specs.Verdicts.{passes}
 use Rattle.jv_meaning_world.proofs.Up.{none, single, first, later}
 use Rattle.jv_meaning_world.proofs.OrderChains.{all_at}
@@ -110,16 +111,18 @@ joined_from classes (file ∷ files) class h = by_part (joined_from (with_class_
     by_part (inl k) = one_from classes file files class k
     by_part (inr k) = inr (later file files (Holds class) k)
 
-guests_right : (files : List (List ℕ)) (contents : List FileContent) → AreContents files contents → (class : Class) → Contains (classes_in contents) class → IsTrue (has_right_superclass class)
-guests_right files contents are class h = by_part (joined_from [] contents class h)
+guests_right : (front : List Class) (files : List (List ℕ)) (contents : List FileContent) → AreContents files contents
+    → ((class : Class) → Contains front class → IsTrue (has_right_superclass class))
+    → (class : Class) → Contains (joined_all front contents) class → IsTrue (has_right_superclass class)
+guests_right front files contents are right class h = by_part (joined_from front contents class h)
   where
-    by_part : Contains [] class ⊎ Contains contents (Holds class) → IsTrue (has_right_superclass class)
-    by_part (inl k) = absurd (none class k)
+    by_part : Contains front class ⊎ Contains contents (Holds class) → IsTrue (has_right_superclass class)
+    by_part (inl k) = right class k
     by_part (inr k) = held_right files contents are class k
 
 -- ---- the world of both
 
-in_mapped : (by_system : Bool) (classes : List Class) (l : Loaded) → Contains (map (loaded by_system) classes) l → (c : Class) × Contains classes c × (loaded by_system c ≡ l)
+pub in_mapped : (by_system : Bool) (classes : List Class) (l : Loaded) → Contains (map (loaded by_system) classes) l → (c : Class) × Contains classes c × (loaded by_system c ≡ l)
 in_mapped by_system [] l h = absurd (none l h)
 in_mapped by_system (c ∷ classes) l h = by_part (λ k. in_mapped by_system classes l k) (Contains-append_cases (loaded by_system c ∷ []) (map (loaded by_system) classes) l h)
   where
@@ -129,9 +132,12 @@ in_mapped by_system (c ∷ classes) l h = by_part (λ k. in_mapped by_system cla
     by_part again (inl k) = (c, first c classes, single (loaded by_system c) l k)
     by_part again (inr k) = let found = again k in (found.0, later c classes found.0 found.1, found.2)
 
-module _ (system : List Class) (contents : List FileContent) where
+module _ (host : HostClasses) (contents : List FileContent) where
   abbrev whole : World
-  whole = world_of system contents
+  whole = world_of host contents
+
+  abbrev own : World
+  own = map (loaded false) (classes_in host contents)
 
   abbrev is_right : Loaded → Bool
   is_right l = leads_to whole object_name l && has_right_supers whole l.class
@@ -139,32 +145,77 @@ module _ (system : List Class) (contents : List FileContent) where
   abbrev HasRoot : Loaded → Type 0
   HasRoot l = IsTrue (has_right_superclass l.class) × (IsTrue l.by_system → IsTrue (is_right l))
 
-  each_has_root : IsTrue (list_all (λ c. has_right_superclass c && is_right (loaded true c)) system) →
-      ((class : Class) → Contains (classes_in contents) class → IsTrue (has_right_superclass class)) → (l : Loaded) → Contains whole l → HasRoot l
-  each_has_root all guests l there = by_loader (Contains-append_cases (map (loaded true) system) (map (loaded false) (classes_in contents)) l there)
+  each_has_root : IsTrue (list_all (λ c. has_right_superclass c && is_right (loaded true c)) host.system) →
+      ((class : Class) → Contains (classes_in host contents) class → IsTrue (has_right_superclass class)) → (l : Loaded) → Contains whole l → HasRoot l
+  each_has_root all guests l there = by_loader (Contains-append_cases (map (loaded true) host.system) own l there)
     where
       not_so : IsTrue false → ⊥
       not_so h = cc
 
-      by_loader : Contains (map (loaded true) system) l ⊎ Contains (map (loaded false) (classes_in contents)) l → HasRoot l
+      by_loader : Contains (map (loaded true) host.system) l ⊎ Contains own l → HasRoot l
       by_loader (inl k) =
-          let known = in_mapped true system l k in
-          let both = and_parts (has_right_superclass known.0) (is_right (loaded true known.0)) (all_at (λ c. has_right_superclass c && is_right (loaded true c)) system known.0 all known.1) in
+          let known = in_mapped true host.system l k in
+          let both = and_parts (has_right_superclass known.0) (is_right (loaded true known.0)) (all_at (λ c. has_right_superclass c && is_right (loaded true c)) host.system known.0 all known.1) in
           subst HasRoot known.2 (both.0, λ t. both.1)
       by_loader (inr k) =
-          let known = in_mapped false (classes_in contents) l k in
+          let known = in_mapped false (classes_in host contents) l k in
           subst HasRoot known.2 (guests known.0 known.1, λ t. absurd (not_so t))
 
-  -- A world of a system's classes and of what files hold, where the system's classes pass the test.
-  pub files_are_rooted : (files : List (List ℕ)) → AreContents files contents → ((guests : World) → IsTrue (is_rooted_by system (map (loaded true) system ++ guests))) → IsRooted whole
-  files_are_rooted files are passes_test =
-      let object = and_parts (passes is_root (class_named whole object_name)) _ (passes_test (map (loaded false) (classes_in contents))) in
+  -- A world of what a host gives and of what files hold, where the system's classes pass the test.
+  host_is_rooted : (files : List (List ℕ)) → AreContents files contents → ((class : Class) → Contains host.front class → IsTrue (has_right_superclass class))
+      → ((guests : World) → IsTrue (is_rooted_by host.system (map (loaded true) host.system ++ guests))) → IsRooted whole
+  host_is_rooted files are front passes_test =
+      let object = and_parts (passes is_root (class_named whole object_name)) _ (passes_test own) in
       let cloneable = and_parts (names_interface whole (codes "java/lang/Cloneable")) _ object.1 in
       let serializable = and_parts (names_interface whole (codes "java/io/Serializable")) _ cloneable.1 in
       record {
         object = λ l e. subst (λ o. IsTrue (passes is_root o)) e object.0;
         cloneable = cloneable.0;
         serializable = serializable.0;
-        superclass = λ l there. (each_has_root serializable.1 (guests_right files contents are) l there).0;
-        system = λ l there t. (each_has_root serializable.1 (guests_right files contents are) l there).1 t;
+        superclass = λ l there. (each_has_root serializable.1 (guests_right host.front files contents are front) l there).0;
+        system = λ l there t. (each_has_root serializable.1 (guests_right host.front files contents are front) l there).1 t;
       }
+
+-- ---- a library's
+
+system_is_rooted : (library : List Class) (guests : World) → IsTrue (is_rooted_by (system_with library) (map (loaded true) (system_with library) ++ guests))
+system_is_rooted [] guests = refl
+system_is_rooted (first ∷ more) guests = refl
+
+front_from : (library front classes : List Class) (c : Class) → Contains (front_of library front classes) c → Contains front c ⊎ Contains classes c
+front_from library front [] c h = inl h
+front_from library front (x ∷ classes) c h = by_part (front_from library (with_class_more library front x) classes c h)
+  where
+    by_end : Contains front c ⊎ Contains (x ∷ []) c → Contains front c ⊎ Contains (x ∷ classes) c
+    by_end (inl k) = inl k
+    by_end (inr k) = inr (subst (λ y. Contains (x ∷ classes) y) (single x c k) (first x classes))
+
+    by_test : (b : Bool) → Contains (if b then front else front ++ x ∷ []) c → Contains front c ⊎ Contains (x ∷ classes) c
+    by_test true k = inl k
+    by_test false k = by_end (Contains-append_cases front (x ∷ []) c k)
+
+    by_part : Contains (with_class_more library front x) c ⊎ Contains classes c → Contains front c ⊎ Contains (x ∷ classes) c
+    by_part (inl k) = by_test (has_class (system_with library) x.name || has_class front x.name) k
+    by_part (inr k) = inr (later x classes c k)
+
+pub in_library : (library : List Class) (c : Class) → Contains (with_library library).front c → Contains library c
+in_library library c h = by_part (front_from library [] library c h)
+  where
+    by_part : Contains [] c ⊎ Contains library c → Contains library c
+    by_part (inl k) = absurd (none c k)
+    by_part (inr k) = k
+
+pub to_held : (classes : List Class) (c : Class) → Contains classes c → Contains (map Holds classes) (Holds c)
+to_held [] c h = absurd (none c h)
+to_held (x ∷ classes) c h = by_part (λ k. to_held classes c k) (Contains-append_cases (x ∷ []) classes c h)
+  where
+    by_part : (Contains classes c → Contains (map Holds classes) (Holds c)) → Contains (x ∷ []) c ⊎ Contains classes c → Contains (map Holds (x ∷ classes)) (Holds c)
+    by_part again (inl k) = subst (λ y. Contains (map Holds (x ∷ classes)) (Holds y)) (single x c k) (first (Holds x) (map Holds classes))
+    by_part again (inr k) = later (Holds x) (map Holds classes) (Holds c) (again k)
+
+pub files_are_rooted : (given : List (List ℕ)) (library : List Class) → IsLibrary given library
+    → (contents : List FileContent) (files : List (List ℕ)) → AreContents files contents → IsRooted (world_of (with_library library) contents)
+files_are_rooted given library gives contents files are =
+    host_is_rooted (with_library library) contents files are
+    (λ class k. held_right given (map Holds library) gives.held class (to_held library class (in_library library class k)))
+    (system_is_rooted library)

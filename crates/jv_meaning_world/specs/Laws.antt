@@ -1,3 +1,4 @@
 pub mod Above
+pub mod Library
 pub mod Order
 pub mod OrderLaws

@@ -3,6 +3,7 @@ pub mod FileContent
 pub mod Flow
 pub mod FrameFlow
 pub mod Laws
+pub mod Library
 pub mod LookUps
 pub mod Numbers
 pub mod Overriding

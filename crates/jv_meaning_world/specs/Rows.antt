@@ -1,4 +1,5 @@
 pub mod Files
 pub mod Flow
+pub mod Library
 pub mod Order
 pub mod System

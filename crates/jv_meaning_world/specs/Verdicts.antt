@@ -8,7 +8,7 @@ use Rattle.jv_meaning_world.specs.FileContent.{FileContent}
 use Rattle.jv_meaning_world.specs.declared.content.Content.TheVariants.{OtherVersion, NoClassFile, MoreThanProfile, Holds}
 use Rattle.jv_meaning_world.specs.declared.verdict.LoadVerdict.{LoadVerdict}
 use Rattle.jv_meaning_world.specs.declared.verdict.LoadVerdict.TheVariants.{Version, Format, Unsupported, Reserved, Duplicate, Circular, NoSuper, WrongKind, NoAccess, FinalBroken}
-use Rattle.jv_meaning_world.specs.World.{Loaded, World, class_named, is_reserved, has_class, classes_in, loaded, world_of, can_name}
+use Rattle.jv_meaning_world.specs.World.{HostClasses, Loaded, World, class_named, is_reserved, has_class, classes_in, loaded, world_of, can_name}
 use Rattle.jv_meaning_world.specs.Above.{super_names, superclass_in, superclasses, is_circular}
 use Rattle.jv_meaning_world.specs.Overriding.{Declared, is_instance, overriding}
 
@@ -88,19 +88,19 @@ verdict_of_class world l =
     else None
 
 -- of a file behind others: None where its methods decide
-abbrev pub verdict_behind : List Class → List FileContent → World → FileContent → Option LoadVerdict
-verdict_behind system earlier world OtherVersion = Some Version
-verdict_behind system earlier world NoClassFile = Some Format
-verdict_behind system earlier world MoreThanProfile = Some Unsupported
-verdict_behind system earlier world (Holds class) =
+abbrev pub verdict_behind : HostClasses → List FileContent → World → FileContent → Option LoadVerdict
+verdict_behind host earlier world OtherVersion = Some Version
+verdict_behind host earlier world NoClassFile = Some Format
+verdict_behind host earlier world MoreThanProfile = Some Unsupported
+verdict_behind host earlier world (Holds class) =
     if is_reserved class.name then Some Reserved
-    else if has_class (classes_in earlier) class.name then Some Duplicate
+    else if has_class (classes_in host earlier) class.name then Some Duplicate
     else verdict_of_class world (loaded false class)
 
-abbrev pub verdict_at : List Class → List FileContent → ℕ → Option FileContent → Option LoadVerdict
-verdict_at system files place None = None
-verdict_at system files place (Some file) = verdict_behind system (take place files) (world_of system files) file
+abbrev pub verdict_at : HostClasses → List FileContent → ℕ → Option FileContent → Option LoadVerdict
+verdict_at host files place None = None
+verdict_at host files place (Some file) = verdict_behind host (take place files) (world_of host files) file
 
 -- of the file at a place, from 0, where there is one
-abbrev pub load_verdict : List Class → List FileContent → ℕ → Option LoadVerdict
-load_verdict system files place = verdict_at system files place (slice_get files place)
+abbrev pub load_verdict : HostClasses → List FileContent → ℕ → Option LoadVerdict
+load_verdict host files place = verdict_at host files place (slice_get files place)

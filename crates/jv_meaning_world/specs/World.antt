@@ -1,4 +1,4 @@
--- The classes that a guest can name (JVMS 5.3): those of the system, and those of its own files.
+-- The classes that a guest can name (JVMS 5.3): those that its host gives, and those of its own files.
 use Rattle.std.specs.Prelude.{ℕ, Bool, true, false, not, ◌&&◌, ◌||◌, ◌==◌, List, [], ◌∷◌, ◌++◌, map, reverse, Option, codes, if◌then◌else◌, nat_eq}
 use Rattle.std.specs.List.{find, list_any, starts_with}
 use Rattle.std.specs.Str.{bytes_eq}
@@ -21,6 +21,15 @@ class_named world name = find (λ l. bytes_eq l.class.name name) world
 
 -- ---- the guest's files
 
+-- What a host gives each of its guests (own): the system's classes, whose names differ and are reserved, and those that stand in front of
+-- the guest's own.
+pub record HostClasses : Type 0 where
+  pub system : List Class
+  pub front : List Class
+
+abbrev pub without_front : List Class → HostClasses
+without_front system = record { system = system; front = [] }
+
 -- names that no file of a guest may take (own)
 abbrev pub is_reserved : List ℕ → Bool
 is_reserved name = starts_with nat_eq name (codes "java/") || starts_with nat_eq name (codes "host/")
@@ -38,16 +47,15 @@ abbrev pub joined_all : List Class → List FileContent → List Class
 joined_all classes [] = classes
 joined_all classes (file ∷ files) = joined_all (with_class_of classes file) files
 
--- the classes of a guest's files, in the order of the files
-abbrev pub classes_in : List FileContent → List Class
-classes_in files = joined_all [] files
+-- those in front, and the classes of a guest's files, in the order of the files
+abbrev pub classes_in : HostClasses → List FileContent → List Class
+classes_in host files = joined_all host.front files
 
 abbrev pub loaded : Bool → Class → Loaded
 loaded by_system class = record { class = class; by_system = by_system }
 
--- the system's classes, whose names differ and are reserved, and those of the files
-abbrev pub world_of : List Class → List FileContent → World
-world_of system files = map (loaded true) system ++ map (loaded false) (classes_in files)
+abbrev pub world_of : HostClasses → List FileContent → World
+world_of host files = map (loaded true) host.system ++ map (loaded false) (classes_in host files)
 
 -- ---- run-time packages (5.3): the package's name together with the loader
 

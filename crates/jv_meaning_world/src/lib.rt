@@ -7,6 +7,7 @@ mod content;
 mod content_law;
 mod flow_law;
 mod law;
+mod library_law;
 mod order_law;
 mod system_law;
 mod verdict;
@@ -15,10 +16,11 @@ pub use content::{Content, FileClass};
 pub use content_law::one_content;
 pub use flow_law::flow_rows;
 pub use law::{above_by_ways, above_is_transitive, file_rows, loadable_by_all};
+pub use library_law::no_library_is_one;
 pub use order_law::{
     above_is_below, array_below_class, below_is_above, below_is_kept, below_is_reference,
     below_is_transitive, components_are_below, files_are_rooted, flows_is_below,
     flows_is_reflexive, flows_to_object, order_rows,
 };
-pub use system_law::system_rows;
+pub use system_law::{library_rows, system_rows};
 pub use verdict::LoadVerdict;

@@ -53,8 +53,7 @@ pub fn array_below_class()
     ensures { ArrayBelowClass }
 {}
 
-/// The world of a system's classes and of any files has java/lang/Object at its top, where the
-/// system's classes pass a test.
+/// The world of a library and of a guest's files has java/lang/Object at its top.
 pub fn files_are_rooted()
     ensures { FilesAreRooted }
 {}

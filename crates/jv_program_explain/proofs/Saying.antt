@@ -3,7 +3,7 @@ use Rattle.std.proofs.Common.{◌≡◌, ℕ, zero, suc, ◌+◌, List, [], ◌�
 use Rattle.std.specs.Prelude.{slice_get}
 use Rattle.std.proofs.lemmas.List.{length-append}
 use Rattle.jv_meaning_world.specs.FileContent.{FileContent, AreContents, IsContent}
-use Rattle.jv_meaning_world.specs.System.Classes.{system_classes}
+use Rattle.jv_meaning_world.specs.Library.{with_library}
 use Rattle.jv_meaning_world.specs.World.{World, world_of}
 use Rattle.jv_meaning_world.specs.Verdicts.{load_verdict}
 use Rattle.jv_meaning_world.specs.declared.verdict.LoadVerdict.{LoadVerdict}
@@ -69,11 +69,11 @@ module _ (files : List (List ℕ)) (contents : List FileContent) (are : AreConte
           let v_same : Some verdict ≡ Some v = sym judged ∙ (ap (slice_get verdicts) (sym here) ∙ v_at) in
           let one : verdict ≡ v = cc in
           let found : slice_get contents k ≡ Some content = ap (slice_get contents) (sym here) ∙ at in
-          let on : IsVerdictOfContent (world_of system_classes contents) (load_verdict system_classes contents k) (Some content) verdict =
-          subst (λ (o : Option FileContent). IsVerdictOfContent (world_of system_classes contents) (load_verdict system_classes contents k) o verdict) found (right.verdict k verdict judged) in
+          let on : IsVerdictOfContent (world_of (with_library []) contents) (load_verdict (with_library []) contents k) (Some content) verdict =
+          subst (λ (o : Option FileContent). IsVerdictOfContent (world_of (with_library []) contents) (load_verdict (with_library []) contents k) o verdict) found (right.verdict k verdict judged) in
           subst (λ (x : List ℕ). IsExplanation content v x) same
           (subst (λ (w : Verdict). IsExplanation content w text) one
-          (says (world_of system_classes contents) (load_verdict system_classes contents k) content (content_at files contents are k bytes content file found) on))
+          (says (world_of (with_library []) contents) (load_verdict (with_library []) contents k) content (content_at files contents are k bytes content file found) on))
 
   pub all_said : (k : ℕ) (said : List (List ℕ)) → AreExplainedBelow contents verdicts k said → k ≡ min (length files) (length verdicts) → AreExplained contents verdicts said
   all_said k said below e = record {

@@ -1,13 +1,14 @@
 -- The guest of a folder, with its names.
-use Rattle.std.specs.Prelude.{ℕ, List, map}
+use Rattle.std.specs.Prelude.{ℕ, List, [], map}
 use Rattle.jv_meaning_machine.specs.Alone.{GuestFiles}
 use Rattle.jv_program_base.specs.declared.folder.Folder.{Folder}
 use Rattle.jv_program_base.specs.Folder.{file_name, file_bytes}
 use Rattle.jv_program_base.specs.MainName.{main_name_of}
 
--- what is run: the bytes of its class files, the name in its file `main`, and its input
+-- what is run, without a library: the bytes of its class files, the name in its file `main`, and its input
 abbrev pub guest_in : Folder → GuestFiles
 guest_in folder = record {
+  library = [];
   files = map file_bytes folder.class_files.items;
   main = main_name_of folder.main.items;
   input = folder.input.items;

@@ -1,12 +1,12 @@
 -- What soundness asks of the classes of a judged guest's world, from their files' rules, and of the tasks of initializations.
 use Rattle.std.proofs.Common.{◌≡◌, ◌⊎◌, inl, inr, ℕ, Bool, true, false, not, ◌&&◌, ◌||◌, List, [], ◌∷◌, ◌++◌, map, Option, Some, None, refl, sym, ap, subst, ◌∙◌}
 use Rattle.std.specs.Prelude.{IsTrue, IsSome, is_some, codes}
-use Rattle.std.specs.List.{AllByRecursion, Contains, list_any, filter_map, cons_option}
+use Rattle.std.specs.List.{AllByRecursion, Contains, filter_map, cons_option}
 use Rattle.std.specs.Option.{option_map, option_to_list}
 use Rattle.std.specs.Str.{bytes_eq}
 use Rattle.jv_text.specs.declared.descriptor.FieldTypeOf.{FieldTypeOf}
 use Rattle.jv_text.specs.Name.{is_init}
-use Rattle.jv_text.specs.Descriptor.{MethodDescriptor, is_floating, is_floating_method, is_floating_result}
+use Rattle.jv_text.specs.Descriptor.{MethodDescriptor, is_floating, is_floating_method}
 use Rattle.jv_text.specs.Types.{field_type_of, method_type_of}
 use Rattle.jv_stackmap.specs.declared.verification.VerificationTypeOf.TheVariants as types
 use Rattle.jv_stackmap.specs.Types.{FrameType, value_type}

@@ -4,29 +4,30 @@ use Rattle.std.specs.Prelude.{IsTrue, slice_get, if◌then◌else◌}
 use Rattle.std.specs.List.{Contains, list_any, list_all}
 use Rattle.std.specs.Str.{bytes_eq}
 use Rattle.std.proofs.lemmas.Bool.{and_from, or_left}
-use Rattle.std.proofs.lemmas.List.Elements.{Contains-append_left, Contains-append_right, Contains-append_cases}
+use Rattle.std.proofs.lemmas.List.Elements.{All-contains, Contains-append_left, Contains-append_right, Contains-append_cases}
 use Rattle.std.proofs.lemmas.Slice.Eq.{bytes_eq-Decides}
 use Rattle.jv_class.specs.Class.{Class}
 use Rattle.jv_meaning_world.specs.FileContent.{FileContent}
 use Rattle.jv_meaning_world.specs.declared.content.Content.TheVariants.{OtherVersion, NoClassFile, MoreThanProfile, Holds}
 use Rattle.jv_meaning_world.specs.declared.verdict.LoadVerdict.{LoadVerdict}
 use Rattle.jv_meaning_world.specs.declared.verdict.LoadVerdict.TheVariants.{Reserved, Duplicate, Circular, NoSuper, WrongKind, NoAccess, FinalBroken}
-use Rattle.jv_meaning_world.specs.World.{Loaded, World, loaded, class_named, is_reserved, has_class, with_class_of, joined_all, classes_in, world_of}
+use Rattle.jv_meaning_world.specs.World.{HostClasses, Loaded, World, loaded, class_named, is_reserved, has_class, with_class_of, joined_all, classes_in, world_of}
 use Rattle.jv_meaning_world.specs.Above.{supers_in, super_names, above, is_circular, superclasses}
 use Rattle.jv_meaning_world.specs.Laws.Above.{SystemStandsAlone, IsWayUp, stands_itself}
 use Rattle.jv_meaning_world.specs.Verdicts.{passes, each_super, have_right_kind, can_name_supers, has_final_super, breaks_final, is_loadable, is_loadable_within, verdict_of_class, verdict_behind, load_verdict}
 use Rattle.jv_meaning_world.proofs.Up.{none, single, first, later, same_name, named_stands, found_super, above_by_ways}
 use Rattle.jv_meaning_world.proofs.Standing.{loadable_by_all}
-use Rattle.jv_meaning_world.specs.System.Classes.{system_classes}
+use Rattle.jv_meaning_world.specs.Library.{front_of, system_with, with_class_more, with_library}
+use Rattle.jv_meaning_world.proofs.Libraries.{not_of_system, system_reserved}
 use Rattle.jv_meaning_world.proofs.OrderChains.{all_at}
 use Rattle.jv_meaning_world.specs.Laws.Order.{IsRooted, leads_to, has_right_supers, object_name}
 use Rattle.jv_meaning_typing.specs.declared.verdict.Verdict.{Verdict}
 use Rattle.jv_meaning_typing.specs.declared.verdict.Verdict.TheVariants.{Accepted, Refused, Verify}
-use Rattle.jv_meaning_typing.specs.Judgement.{AreTyped, IsVerdictBehind, IsVerdictOfContent}
+use Rattle.jv_meaning_typing.specs.Judgement.{AreTyped, IsVerdictBehind, IsVerdictOfClass, IsVerdictOfContent}
 use Rattle.jv_meaning_machine.specs.State.{is_class_accepted}
-use Rattle.jv_meaning_machine.specs.Alone.{Judged, IsJudged, accepted_names}
+use Rattle.jv_meaning_machine.specs.Alone.{Judged, IsJudged, Stands, accepted_names}
 use Rattle.jv_meaning_machine.proofs.Rooting.{judged_is_rooted}
-use Rattle.jv_sound.specs.Sound.{IsSystemAccepted, IsSound}
+use Rattle.jv_sound.specs.Sound.{IsSound}
 use Rattle.jv_sound.proofs.Logic.{clash}
 use Rattle.jv_sound.proofs.Taking.{and_parts}
 
@@ -108,16 +109,17 @@ map_end : (by_system : Bool) (cs ds : List Class) → map (loaded by_system) (cs
 map_end by_system [] ds = refl
 map_end by_system (c ∷ cs) ds = ap (λ (ls : World). loaded by_system c ∷ ls) (map_end by_system cs ds)
 
--- a guest's classes so far: each has its own name, which is not reserved
-record AreOwn (cs : List Class) : Type 0 where
+-- classes behind those of the system: each has its own name, which none of these has
+record AreOwn (system cs : List Class) : Type 0 where
   named : AreNamed false cs
-  free : (c : Class) → Contains cs c → is_reserved c.name ≡ false
+  free : (c : Class) → Contains cs c → has_class system c.name ≡ false
 
-no_classes : AreOwn []
-no_classes = record { named = λ c h. absurd (none c h); free = λ c h. absurd (none c h) }
+no_classes : (system : List Class) → AreOwn system []
+no_classes system = record { named = λ c h. absurd (none c h); free = λ c h. absurd (none c h) }
 
-one_more : (cs : List Class) (c : Class) → AreOwn cs → is_reserved c.name ≡ false → has_class cs c.name ≡ false → AreOwn (cs ++ c ∷ [])
-one_more cs c own free new = record {
+one_more : (system cs : List Class) (c : Class) → AreOwn system cs → has_class system c.name ≡ false → has_class cs c.name ≡ false
+    → AreOwn system (cs ++ c ∷ [])
+one_more system cs c own free new = record {
   named = λ x h. named x (Contains-append_cases cs (c ∷ []) x h);
   free = λ x h. unreserved x
       (Contains-append_cases cs (c ∷ []) x h);
@@ -132,42 +134,48 @@ one_more cs c own free new = record {
         (ap (λ (w : World). class_named w c.name) (map_end false cs (c ∷ [])) ∙
         (passed_all false cs (loaded false c ∷ []) c.name new ∙ itself_named false c []))
 
-    unreserved : (x : Class) → Contains cs x ⊎ Contains (c ∷ []) x → is_reserved x.name ≡ false
+    unreserved : (x : Class) → Contains cs x ⊎ Contains (c ∷ []) x → has_class system x.name ≡ false
     unreserved x (inl k) = own.free x k
-    unreserved x (inr k) = subst (λ (y : Class). is_reserved y.name ≡ false) (single c x k) free
+    unreserved x (inr k) = subst (λ (y : Class). has_class system y.name ≡ false) (single c x k) free
 
-with_one : (cs : List Class) (f : FileContent) → AreOwn cs → AreOwn (with_class_of cs f)
-with_one cs OtherVersion own = own
-with_one cs NoClassFile own = own
-with_one cs MoreThanProfile own = own
-with_one cs (Holds c) own = by_test (is_reserved c.name) (has_class cs c.name) refl refl
-  where
-    by_test : (a b : Bool) → is_reserved c.name ≡ a → has_class cs c.name ≡ b → AreOwn (if a || b then cs else cs ++ c ∷ [])
-    by_test true b e k = own
-    by_test false true e k = own
-    by_test false false e k = one_more cs c own e k
+system_differ : (library : List Class) → differ (system_with library) ≡ true
+system_differ [] = refl
+system_differ (c ∷ more) = refl
 
-all_own : (cs : List Class) (files : List FileContent) → AreOwn cs → AreOwn (joined_all cs files)
-all_own cs [] own = own
-all_own cs (f ∷ files) own = all_own (with_class_of cs f) files (with_one cs f own)
+module _ (library : List Class) where
+  abbrev AreBehind : List Class → Type 0
+  AreBehind cs = AreOwn (system_with library) cs
 
-system_differ : differ system_classes ≡ true
-system_differ = refl
+  with_one : (cs : List Class) (f : FileContent) → AreBehind cs → AreBehind (with_class_of cs f)
+  with_one cs OtherVersion own = own
+  with_one cs NoClassFile own = own
+  with_one cs MoreThanProfile own = own
+  with_one cs (Holds c) own = by_test (is_reserved c.name) (has_class cs c.name) refl refl
+    where
+      by_test : (a b : Bool) → is_reserved c.name ≡ a → has_class cs c.name ≡ b → AreBehind (if a || b then cs else cs ++ c ∷ [])
+      by_test true b e k = own
+      by_test false true e k = own
+      by_test false false e k =
+          one_more (system_with library) cs c own (not_of_system (system_with library) c.name (system_reserved library) e) k
 
-system_reserved : list_all (λ (c : Class). is_reserved c.name) system_classes ≡ true
-system_reserved = refl
+  all_own : (cs : List Class) (files : List FileContent) → AreBehind cs → AreBehind (joined_all cs files)
+  all_own cs [] own = own
+  all_own cs (f ∷ files) own = all_own (with_class_of cs f) files (with_one cs f own)
 
-not_of_system : (cs : List Class) (name : List ℕ) → list_all (λ (c : Class). is_reserved c.name) cs ≡ true → is_reserved name ≡ false
-    → has_class cs name ≡ false
-not_of_system [] name all free = refl
-not_of_system (c ∷ cs) name all free =
-    let parts = and_parts (is_reserved c.name) (list_all (λ (c : Class). is_reserved c.name) cs) all in
-    by_test (bytes_eq c.name name) refl parts.0 (not_of_system cs name parts.1 free)
-  where
-    by_test : (b : Bool) → bytes_eq c.name name ≡ b → is_reserved c.name ≡ true → has_class cs name ≡ false
-        → (b || has_class cs name) ≡ false
-    by_test true e r k = absurd (clash (sym free ∙ (ap is_reserved (sym (same_name c.name name e)) ∙ r)))
-    by_test false e r k = k
+  one_front : (cs : List Class) (c : Class) → AreBehind cs → AreBehind (with_class_more library cs c)
+  one_front cs c own = by_test (has_class (system_with library) c.name) (has_class cs c.name) refl refl
+    where
+      by_test : (a b : Bool) → has_class (system_with library) c.name ≡ a → has_class cs c.name ≡ b → AreBehind (if a || b then cs else cs ++ c ∷ [])
+      by_test true b e k = own
+      by_test false true e k = own
+      by_test false false e k = one_more (system_with library) cs c own e k
+
+  all_front : (cs classes : List Class) → AreBehind cs → AreBehind (front_of library cs classes)
+  all_front cs [] own = own
+  all_front cs (c ∷ classes) own = all_front (with_class_more library cs c) classes (one_front cs c own)
+
+  all_behind : (contents : List FileContent) → AreBehind (classes_in (with_library library) contents)
+  all_behind contents = all_own (with_library library).front contents (all_front [] library (no_classes (system_with library)))
 
 pub in_mapped : (by_system : Bool) (classes : List Class) (l : Loaded) → Contains (map (loaded by_system) classes) l
     → (c : Class) × Contains classes c × (loaded by_system c ≡ l)
@@ -193,26 +201,30 @@ to_mapped by_system (x ∷ classes) c h = by_part (Contains-append_cases (x ∷ 
         (first (loaded by_system x) (map (loaded by_system) classes))
     by_part (inr k) again = later (loaded by_system x) (map (loaded by_system) classes) (loaded by_system c) (again k)
 
-pub world_is_named : (contents : List FileContent) (l : Loaded) → Contains (world_of system_classes contents) l
-    → class_named (world_of system_classes contents) l.class.name ≡ Some l
-world_is_named contents l h = by_loader (Contains-append_cases (map (loaded true) system_classes)
-    (map (loaded false) (classes_in contents)) l h)
+pub world_is_named : (library : List Class) (contents : List FileContent) (l : Loaded) → Contains (world_of (with_library library) contents) l
+    → class_named (world_of (with_library library) contents) l.class.name ≡ Some l
+world_is_named library contents l h = by_loader (Contains-append_cases (map (loaded true) system) (map (loaded false) behind) l h)
   where
-    own : AreOwn (classes_in contents)
-    own = all_own [] contents no_classes
+    system : List Class
+    system = system_with library
 
-    by_loader : Contains (map (loaded true) system_classes) l ⊎ Contains (map (loaded false) (classes_in contents)) l
-        → class_named (world_of system_classes contents) l.class.name ≡ Some l
+    behind : List Class
+    behind = classes_in (with_library library) contents
+
+    own : AreOwn system behind
+    own = all_behind library contents
+
+    by_loader : Contains (map (loaded true) system) l ⊎ Contains (map (loaded false) behind) l
+        → class_named (map (loaded true) system ++ map (loaded false) behind) l.class.name ≡ Some l
     by_loader (inl k) =
-        let c = in_mapped true system_classes l k in
-        subst (λ (x : Loaded). class_named (world_of system_classes contents) x.class.name ≡ Some x) c.2
-        (found_left (map (loaded true) system_classes) (map (loaded false) (classes_in contents)) c.0.name (loaded true c.0)
-        (differ_named true system_classes system_differ c.0 c.1))
+        let c = in_mapped true system l k in
+        subst (λ (x : Loaded). class_named (map (loaded true) system ++ map (loaded false) behind) x.class.name ≡ Some x) c.2
+        (found_left (map (loaded true) system) (map (loaded false) behind) c.0.name (loaded true c.0)
+        (differ_named true system (system_differ library) c.0 c.1))
     by_loader (inr k) =
-        let c = in_mapped false (classes_in contents) l k in
-        subst (λ (x : Loaded). class_named (world_of system_classes contents) x.class.name ≡ Some x) c.2
-        (passed_all true system_classes (map (loaded false) (classes_in contents)) c.0.name
-        (not_of_system system_classes c.0.name system_reserved (own.free c.0 c.1)) ∙ own.named c.0 c.1)
+        let c = in_mapped false behind l k in
+        subst (λ (x : Loaded). class_named (map (loaded true) system ++ map (loaded false) behind) x.class.name ≡ Some x) c.2
+        (passed_all true system (map (loaded false) behind) c.0.name (own.free c.0 c.1) ∙ own.named c.0 c.1)
 
 -- ---- what is accepted
 
@@ -284,18 +296,18 @@ joins cs (f ∷ files) zero c e free new =
 joins cs (f ∷ files) (suc place) c e free new = joins (with_class_of cs f) files place c e free new
 
 -- where the load verdict is none
-record IsPlain (system : List Class) (earlier : List FileContent) (world : World) (c : Class) : Type 0 where
+record IsPlain (host : HostClasses) (earlier : List FileContent) (world : World) (c : Class) : Type 0 where
   free : is_reserved c.name ≡ false
-  new : has_class (classes_in earlier) c.name ≡ false
+  new : has_class (classes_in host earlier) c.name ≡ false
   plain : verdict_of_class world (loaded false c) ≡ None
 
-plain_behind : (system : List Class) (earlier : List FileContent) (world : World) (c : Class)
-    → verdict_behind system earlier world (Holds c) ≡ None → IsPlain system earlier world c
-plain_behind system earlier world c e = by_test (is_reserved c.name) (has_class (classes_in earlier) c.name) refl refl e
+plain_behind : (host : HostClasses) (earlier : List FileContent) (world : World) (c : Class)
+    → verdict_behind host earlier world (Holds c) ≡ None → IsPlain host earlier world c
+plain_behind host earlier world c e = by_test (is_reserved c.name) (has_class (classes_in host earlier) c.name) refl refl e
   where
-    by_test : (a b : Bool) → is_reserved c.name ≡ a → has_class (classes_in earlier) c.name ≡ b
+    by_test : (a b : Bool) → is_reserved c.name ≡ a → has_class (classes_in host earlier) c.name ≡ b
         → (if a then Some Reserved else if b then Some Duplicate else verdict_of_class world (loaded false c)) ≡ None
-        → IsPlain system earlier world c
+        → IsPlain host earlier world c
     by_test true b r d k = absurd cc
     by_test false true r d k = absurd cc
     by_test false false r d k = record { free = r; new = d; plain = k }
@@ -391,16 +403,46 @@ stands_alone world rooted l s here by h =
 
 -- ---- the whole
 
-module _ (files : List (List ℕ)) (judged : Judged) (right : IsJudged files judged) (system : IsSystemAccepted judged.program.world) where
+-- a name is among those in front, or among the others
+among_parts : (name : List ℕ) (front own : List (List ℕ)) → list_any (bytes_eq name) (front ++ own) ≡ true
+    → (list_any (bytes_eq name) front ≡ true) ⊎ (list_any (bytes_eq name) own ≡ true)
+among_parts name [] own e = inr e
+among_parts name (x ∷ front) own e = by_test (bytes_eq name x) refl e (λ k. among_parts name front own k)
+  where
+    by_test : (b : Bool) → bytes_eq name x ≡ b → (b || list_any (bytes_eq name) (front ++ own)) ≡ true
+        → (list_any (bytes_eq name) (front ++ own) ≡ true → (list_any (bytes_eq name) front ≡ true) ⊎ (list_any (bytes_eq name) own ≡ true))
+        → (list_any (bytes_eq name) (x ∷ front) ≡ true) ⊎ (list_any (bytes_eq name) own ≡ true)
+    by_test true t k again = inl (ap (λ (b : Bool). b || list_any (bytes_eq name) front) t)
+    by_test false t k again = elim (again k) [
+      | inl h ↦ inl (ap (λ (b : Bool). b || list_any (bytes_eq name) front) t ∙ h)
+      | inr h ↦ inr h
+    ]
+
+front_named : (name : List ℕ) (front : List Class) → list_any (bytes_eq name) (map (λ c. c.name) front) ≡ true
+    → (c : Class) × Contains front c × (c.name ≡ name)
+front_named name [] e = absurd (clash e)
+front_named name (x ∷ front) e = by_test (bytes_eq name x.name) refl e (λ k. front_named name front k)
+  where
+    by_test : (b : Bool) → bytes_eq name x.name ≡ b → (b || list_any (bytes_eq name) (map (λ c. c.name) front)) ≡ true
+        → (list_any (bytes_eq name) (map (λ c. c.name) front) ≡ true → (c : Class) × Contains front c × (c.name ≡ name))
+        → (c : Class) × Contains (x ∷ front) c × (c.name ≡ name)
+    by_test true t k again = (x, first x front, sym (same_name name x.name t))
+    by_test false t k again = let found = again k in (found.0, later x front found.0 found.1, found.2)
+
+module _ (library files : List (List ℕ)) (judged : Judged) (right : IsJudged library files judged)
+    (stands : Stands judged.program.world (with_library right.given)) where
+  abbrev host : HostClasses
+  host = with_library right.given
+
   abbrev whole : World
-  whole = world_of system_classes right.contents
+  whole = world_of host right.contents
 
   rooted_whole : IsRooted judged.program.world
-  rooted_whole = judged_is_rooted files judged right
+  rooted_whole = judged_is_rooted library files judged right
 
   named_all : (l : Loaded) → Contains judged.program.world l → class_named judged.program.world l.class.name ≡ Some l
   named_all = subst (λ (w : World). (l : Loaded) → Contains w l → class_named w l.class.name ≡ Some l) (sym right.world)
-      (world_is_named right.contents)
+      (world_is_named right.given right.contents)
 
   record IsGoodClass (l : Loaded) : Type 0 where
     typed : AreTyped judged.program.world l l.class.methods
@@ -409,32 +451,51 @@ module _ (files : List (List ℕ)) (judged : Judged) (right : IsJudged files jud
   one_some : (a b : Loaded) → Some a ≡ Some b → a ≡ b
   one_some a b e = cc
 
+  -- a class behind the system's is the one of its name
+  behind_is : (c : Class) (l : Loaded) → Contains (classes_in host right.contents) c → Contains judged.program.world l → c.name ≡ l.class.name
+      → loaded false c ≡ l
+  behind_is c l there here same =
+      let there_too : Contains judged.program.world (loaded false c) = subst (λ (w : World). Contains w (loaded false c)) (sym right.world)
+      (Contains-append_right (map (loaded true) host.system) (map (loaded false) (classes_in host right.contents)) (loaded false c)
+      (to_mapped false (classes_in host right.contents) c there)) in
+      one_some (loaded false c) l (sym (named_all (loaded false c) there_too) ∙ (ap (class_named judged.program.world) same ∙ named_all l here))
+
+  front_good : (l : Loaded) → Contains judged.program.world l → (c : Class) → Contains host.front c → c.name ≡ l.class.name → IsGoodClass l
+  front_good l here c h named =
+      let same = behind_is c l (stays host.front right.contents c h) here named in
+      let verdict : IsVerdictOfClass judged.program.world (loaded false c) Accepted =
+      All-contains (λ (x : Class). IsVerdictOfClass judged.program.world (loaded false x) Accepted) host.front c stands.front h in
+      let plain = accepted_plain judged.program.world (loaded false c) (verdict_of_class judged.program.world (loaded false c)) verdict in
+      let here_too : Contains judged.program.world (loaded false c) = subst (λ (x : Loaded). Contains judged.program.world x) (sym same) here in
+      subst IsGoodClass same (record {
+        typed = plain.1;
+        loadable = right_loadable judged.program.world (stands_alone judged.program.world rooted_whole) (loaded false c) here_too
+            (are_right judged.program.world (loaded false c) plain.0);
+      })
+
   guest_good : (l : Loaded) → Contains judged.program.world l → IsAcceptedFile right.contents judged.verdicts l.class.name → IsGoodClass l
   guest_good l here h = good
     where
-      verdict : IsVerdictBehind whole (loaded false h.class) (load_verdict system_classes right.contents h.place) Accepted
+      verdict : IsVerdictBehind whole (loaded false h.class) (load_verdict host right.contents h.place) Accepted
       verdict = subst (λ (o : Option FileContent). IsVerdictOfContent whole
-          (load_verdict system_classes right.contents h.place) o Accepted) h.held (right.verdict h.place Accepted h.accepted)
+          (load_verdict host right.contents h.place) o Accepted) h.held (right.verdict h.place Accepted h.accepted)
 
-      plain : (load_verdict system_classes right.contents h.place ≡ None) × AreTyped whole (loaded false h.class) h.class.methods
-      plain = accepted_plain whole (loaded false h.class) (load_verdict system_classes right.contents h.place) verdict
+      plain : (load_verdict host right.contents h.place ≡ None) × AreTyped whole (loaded false h.class) h.class.methods
+      plain = accepted_plain whole (loaded false h.class) (load_verdict host right.contents h.place) verdict
 
-      is_plain : IsPlain system_classes (take h.place right.contents) whole h.class
-      is_plain = plain_behind system_classes (take h.place right.contents) whole h.class
-          (sym (ap (Rattle.jv_meaning_world.specs.Verdicts.verdict_at system_classes right.contents h.place) h.held) ∙
+      is_plain : IsPlain host (take h.place right.contents) whole h.class
+      is_plain = plain_behind host (take h.place right.contents) whole h.class
+          (sym (ap (Rattle.jv_meaning_world.specs.Verdicts.verdict_at host right.contents h.place) h.held) ∙
           plain.0)
 
-      there : Contains whole (loaded false h.class)
-      there = Contains-append_right (map (loaded true) system_classes) (map (loaded false) (classes_in right.contents))
-          (loaded false h.class)
-          (to_mapped false (classes_in right.contents) h.class (joins [] right.contents h.place h.class h.held is_plain.free is_plain.new))
-
-      here_too : Contains judged.program.world (loaded false h.class)
-      here_too = subst (λ (w : World). Contains w (loaded false h.class)) (sym right.world) there
+      there : Contains (classes_in host right.contents) h.class
+      there = joins host.front right.contents h.place h.class h.held is_plain.free is_plain.new
 
       same : loaded false h.class ≡ l
-      same = one_some (loaded false h.class) l (sym (named_all (loaded false h.class) here_too) ∙
-          (ap (class_named judged.program.world) h.named ∙ named_all l here))
+      same = behind_is h.class l there here h.named
+
+      here_too : Contains judged.program.world (loaded false h.class)
+      here_too = subst (λ (x : Loaded). Contains judged.program.world x) (sym same) here
 
       good : IsGoodClass l
       good = subst IsGoodClass same (record {
@@ -444,25 +505,46 @@ module _ (files : List (List ℕ)) (judged : Judged) (right : IsJudged files jud
             (subst (λ (w : World). verdict_of_class w (loaded false h.class) ≡ None) (sym right.world) is_plain.plain));
       })
 
+  system_verdict : (l : Loaded) → Contains judged.program.world l → l.by_system ≡ true → IsVerdictOfClass judged.program.world l Accepted
+  system_verdict l here by = by_loader (Contains-append_cases (map (loaded true) host.system) (map (loaded false) (classes_in host right.contents)) l
+      (subst (λ (w : World). Contains w l) right.world here))
+    where
+      by_loader : Contains (map (loaded true) host.system) l ⊎ Contains (map (loaded false) (classes_in host right.contents)) l
+          → IsVerdictOfClass judged.program.world l Accepted
+      by_loader (inl k) =
+          let c = in_mapped true host.system l k in
+          subst (λ (x : Loaded). IsVerdictOfClass judged.program.world x Accepted) c.2
+          (All-contains (λ (x : Class). IsVerdictOfClass judged.program.world (loaded true x) Accepted) host.system c.0 stands.system c.1)
+      by_loader (inr k) =
+          let c = in_mapped false (classes_in host right.contents) l k in
+          absurd (clash (ap (λ (x : Loaded). x.by_system) c.2 ∙ by))
+
   system_good : (l : Loaded) → Contains judged.program.world l → l.by_system ≡ true → IsGoodClass l
   system_good l here by = record {
-    typed = (accepted_plain judged.program.world l (verdict_of_class judged.program.world l) (system l here by)).1;
+    typed = (accepted_plain judged.program.world l (verdict_of_class judged.program.world l) (system_verdict l here by)).1;
     loadable = system_loadable judged.program.world l by;
   }
+
+  own_good : (l : Loaded) → Contains judged.program.world l
+      → (list_any (bytes_eq l.class.name) (map (λ c. c.name) host.front) ≡ true)
+      ⊎ (list_any (bytes_eq l.class.name) (accepted_names right.contents judged.verdicts) ≡ true) → IsGoodClass l
+  own_good l here (inl h) = let c = front_named l.class.name host.front h in front_good l here c.0 c.1 c.2
+  own_good l here (inr h) = guest_good l here (accepted_file right.contents judged.verdicts l.class.name h)
 
   good_class : (l : Loaded) → Contains judged.program.world l → is_class_accepted judged.program l ≡ true → IsGoodClass l
   good_class l here e = by_loader l.by_system refl e
     where
       by_loader : (b : Bool) → l.by_system ≡ b → (b || list_any (bytes_eq l.class.name) judged.program.accepted) ≡ true → IsGoodClass l
       by_loader true s k = system_good l here s
-      by_loader false s k = guest_good l here (accepted_file right.contents judged.verdicts l.class.name
+      by_loader false s k = own_good l here (among_parts l.class.name (map (λ c. c.name) host.front) (accepted_names right.contents judged.verdicts)
           (ap (list_any (bytes_eq l.class.name)) (sym right.accepted) ∙ k))
 
   pub judged_is_sound : IsSound judged.program
   judged_is_sound = record {
     rooted = rooted_whole;
     alone = stands_alone judged.program.world rooted_whole;
-    guests = classes_in right.contents;
+    library = right.given;
+    guests = classes_in host right.contents;
     world = right.world;
     named = named_all;
     typed = λ l here e. (good_class l here e).typed;

@@ -76,4 +76,5 @@ pub mod Begun
 pub mod ConstructorFrame
 pub mod ConstructsActs
 pub mod Executing
+pub mod NoLibrary
 pub mod NeverFaults

@@ -8,9 +8,10 @@ use Rattle.jv_text.specs.Name.{is_init}
 use Rattle.jv_text.specs.Types.{TypesAgree, method_type_of}
 use Rattle.jv_stackmap.specs.Frames.{Frame as TypesOf}
 use Rattle.jv_code.specs.Places.{StandsInList, NextStarts, OneList}
+use Rattle.jv_meaning_world.specs.Library.{with_library}
 use Rattle.jv_meaning_world.specs.Overriding.{Declared}
 use Rattle.jv_meaning_typing.specs.Rule.{rule}
-use Rattle.jv_meaning_machine.specs.Alone.{Feed, GuestFiles, Judged, IsJudged, AreUnits, alone}
+use Rattle.jv_meaning_machine.specs.Alone.{Feed, GuestFiles, Judged, IsJudged, AreUnits, Stands, alone}
 use Rattle.jv_meaning_machine.specs.Effects.{Effect}
 use Rattle.jv_meaning_machine.specs.Effects.Effect.{Goes, Enters, Constructs, Leaves, Throws, Raises, Begins}
 use Rattle.jv_meaning_machine.specs.Frames.{MethodFrame, InitializationFrame, Frame}
@@ -55,12 +56,6 @@ use Rattle.jv_sound.proofs.Stepping.{running_later, step_ok, alone_ok, is_ok}
 use Rattle.jv_sound.proofs.SystemFacts.{raised, system_name, makeable, out_of_memory_is_thrown, throwable_is_plain, throwable_is_not_object, string_there_in}
 use Rattle.jv_sound.proofs.Words.{slots_are_words}
 use Rattle.jv_sound.proofs.WorldFacts.{world_is_formed}
-use Rattle.jv_sound.specs.Sound.{IsSystemAccepted}
-use Rattle.jv_sound_system.proofs.InAnyWorld.{system_is_accepted}
-
--- in the world of what is judged the classes of the system are accepted
-judged_system_is_accepted : (files : List (List ℕ)) (judged : Judged) → IsJudged files judged → IsSystemAccepted judged.program.world
-judged_system_is_accepted files judged right = subst IsSystemAccepted (sym right.world) (system_is_accepted right.contents)
 
 some_same : {A : Type 0} (x y : A) → Some x ≡ Some y → x ≡ y
 some_same x y e = cc
@@ -174,17 +169,18 @@ module _ (one_list : OneList) (next_starts : NextStarts) (stands_in_list : Stand
 
 goes_well :
     TypesAgree → OneList → NextStarts → StandsInList → (judged : Judged) (g : GuestFiles) (b : Budget) (feeds : List Feed) (n : ℕ)
-    → IsJudged g.files judged → Holds (IsGood judged.program) (alone judged g b feeds n)
-goes_well agree one_list next_starts stands_in_list judged g b feeds n right =
-    let sound = judged_is_sound g.files judged right (judged_system_is_accepted g.files judged right) in
-    let formed : AreFormed judged.program = record { each = world_is_formed agree g.files judged right } in
+    → (right : IsJudged g.library g.files judged) → Stands judged.program.world (with_library right.given)
+    → Holds (IsGood judged.program) (alone judged g b feeds n)
+goes_well agree one_list next_starts stands_in_list judged g b feeds n right stands =
+    let sound = judged_is_sound g.library g.files judged right stands in
+    let formed : AreFormed judged.program = record { each = world_is_formed agree g.library g.files judged right } in
     alone_ok judged g b feeds (starts one_list next_starts stands_in_list judged.program sound formed right.units g.main g.input b)
     (λ s good. steps one_list next_starts stands_in_list judged.program sound formed right.units s good) n
 
 -- the law: a judged guest's machine meets no fault
 pub never_faults : TypesAgree → OneList → NextStarts → StandsInList → NeverFaults
-never_faults agree one_list next_starts stands_in_list judged g b feeds n right =
-    is_ok (goes_well agree one_list next_starts stands_in_list judged g b feeds n right)
+never_faults agree one_list next_starts stands_in_list judged g b feeds n right stands =
+    is_ok (goes_well agree one_list next_starts stands_in_list judged g b feeds n right stands)
 
 -- and its objects are of classes that can be loaded
 held : {A : Type 0} {P : A → Type 0} (r : OrFault A) (a : A) → Holds P r → r ≡ Ok a → P a
@@ -195,8 +191,8 @@ same_class : (a b : Loaded) → Some a ≡ Some b → a ≡ b
 same_class a b e = cc
 
 pub objects_are_loadable : TypesAgree → OneList → NextStarts → StandsInList → ObjectsAreLoadable
-objects_are_loadable agree one_list next_starts stands_in_list judged g b feeds n s right ran id instance l at named =
-    let good = held (alone judged g b feeds n) s (goes_well agree one_list next_starts stands_in_list judged g b feeds n right) ran in
+objects_are_loadable agree one_list next_starts stands_in_list judged g b feeds n s right stands ran id instance l at named =
+    let good = held (alone judged g b feeds n) s (goes_well agree one_list next_starts stands_in_list judged g b feeds n right stands) ran in
     let typed = good.memory.objects.each id (InstanceOf instance) at in
     subst (λ (m : Loaded). IsTrue (is_loadable judged.program.world m)) (same_class typed.l l (sym typed.named ∙ named)) typed.loadable
 
@@ -238,9 +234,9 @@ module _ (program : Program) (heap : Heap) (frame : InitializationFrame) where
       ]
 
 pub initializations_are_loadable : TypesAgree → OneList → NextStarts → StandsInList → InitializationsAreLoadable
-initializations_are_loadable agree one_list next_starts stands_in_list judged g b feeds n s right ran frame among =
-    let good = held (alone judged g b feeds n) s (goes_well agree one_list next_starts stands_in_list judged g b feeds n right) ran in
+initializations_are_loadable agree one_list next_starts stands_in_list judged g b feeds n s right stands ran frame among =
+    let good = held (alone judged g b feeds n) s (goes_well agree one_list next_starts stands_in_list judged g b feeds n right stands) ran in
     let begun = begun_among judged.program good.heap frame s.frames good.frames among in
-    let sound = judged_is_sound g.files judged right (judged_system_is_accepted g.files judged right) in
+    let sound = judged_is_sound g.library g.files judged right stands in
     sound.loadable frame.class begun.here
     (and_parts (is_class_accepted judged.program frame.class) (list_all (is_class_accepted judged.program) (above judged.program.world frame.class.class)) begun.verified).0

@@ -8,7 +8,7 @@ use Rattle.jv_text.specs.Types.{field_type_of, method_type_of}
 use Rattle.jv_code.specs.Places.{StandsInList, NextStarts}
 use Rattle.jv_stackmap.specs.declared.verification.VerificationTypeOf.TheVariants as types
 use Rattle.jv_meaning_world.specs.System.Io.{io}
-use Rattle.jv_class.specs.Class.{Field, method_named}
+use Rattle.jv_class.specs.Class.{Class, Field, method_named}
 use Rattle.jv_class.specs.Rules.{is_clinit}
 use Rattle.jv_class_structure.specs.Flags.{has, acc_public, acc_static, acc_abstract}
 use Rattle.jv_meaning_world.specs.World.{Loaded, World, loaded, class_named}
@@ -45,8 +45,9 @@ use Rattle.jv_sound.proofs.Memories.{described_fits, new_typed, IsMakeable}
 use Rattle.jv_sound.proofs.SystemFacts.{with_guests, raised, makeable, system_verified}
 use Rattle.jv_sound.proofs.Asked.{AreFormed, method_stands, needs_have_code}
 
-string_loadable : (guests : World) → has_loadable_element (with_guests guests) (class_components string_name).element ≡ true
-string_loadable guests = refl
+string_loadable : (library : List Class) (guests : World) → has_loadable_element (with_guests library guests) (class_components string_name).element ≡ true
+string_loadable [] guests = refl
+string_loadable (first ∷ more) guests = refl
 
 entries_join : (world : World) (objects : List Object) (xs ys : Content) → AllByRecursion (FitsEntry world objects) xs
     → AllByRecursion (FitsEntry world objects) ys → AllByRecursion (FitsEntry world objects) (xs ++ ys)
@@ -108,7 +109,7 @@ module _ (program : Program) (sound : IsSound program) (formed : AreFormed progr
           subst (λ (x : Object). IsTypedObject program (start_memory program.world input b l).objects x) same
           (record {
             loadable = subst (λ (w : World). has_loadable_element w (class_components string_name).element ≡ true) (sym sound.world)
-                (string_loadable (map (loaded false) sound.guests));
+                (string_loadable sound.library (map (loaded false) sound.guests));
             fit = tt;
           })
       each (suc (suc id)) o k = absurd cc

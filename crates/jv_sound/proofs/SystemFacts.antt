@@ -6,7 +6,6 @@ use Rattle.std.specs.Str.{bytes_eq}
 use Rattle.std.proofs.lemmas.Bool.{and_from, or_left}
 use Rattle.std.proofs.lemmas.List.Elements.{Contains-append_cases}
 use Rattle.jv_stackmap.specs.declared.verification.VerificationTypeOf.TheVariants as types
-use Rattle.jv_meaning_world.specs.System.Classes.{system_classes}
 use Rattle.jv_class.specs.Class.{Class, Field, field_named}
 use Rattle.jv_meaning_world.specs.World.{Loaded, World, loaded, class_named}
 use Rattle.jv_meaning_world.specs.Above.{above}
@@ -25,14 +24,15 @@ use Rattle.jv_meaning_machine.specs.Initialization.{is_verified}
 use Rattle.jv_meaning_machine.specs.Effects.{out_of_memory, null_pointer, array_index, array_store, negative_size, class_cast, division_by_zero}
 use Rattle.jv_sound.specs.Values.{IsObject, object_type}
 use Rattle.jv_sound.specs.Sound.{IsSound}
+use Rattle.jv_meaning_world.specs.Library.{system_with}
 use Rattle.jv_sound.specs.Effects.{stack_overflow, IsThrown}
 use Rattle.jv_sound.proofs.Logic.{clash}
 use Rattle.jv_sound.proofs.Taking.{and_parts}
 use Rattle.jv_sound.proofs.Memories.{IsMakeable}
 use Rattle.jv_sound.proofs.Judged.{in_mapped, system_loadable}
 
-abbrev pub with_guests : World → World
-with_guests guests = map (loaded true) system_classes ++ guests
+abbrev pub with_guests : List Class → World → World
+with_guests library guests = map (loaded true) (system_with library) ++ guests
 
 abbrev below_throwable : World → Loaded → Bool
 below_throwable world l = flows world (erased world (types.Class l.class.name)) (erased world throwable_type)
@@ -50,9 +50,10 @@ raised_names =
     ∷ error_class VerifyError ∷ error_class NoSuchFieldError ∷ error_class NoSuchMethodError ∷ error_class AbstractMethodError ∷ error_class
     InstantiationError ∷ []
 
-all_thrown : (guests : World) → list_all (λ (name : List ℕ). thrown_in (with_guests guests)
-    (class_named (with_guests guests) name)) raised_names ≡ true
-all_thrown guests = refl
+all_thrown : (library : List Class) (guests : World) → list_all (λ (name : List ℕ). thrown_in (with_guests library guests)
+    (class_named (with_guests library guests) name)) raised_names ≡ true
+all_thrown [] guests = refl
+all_thrown (_ ∷ _) guests = refl
 
 is_thrown : (world : World) (name : List ℕ) → thrown_in world (class_named world name) ≡ true → IsThrown world name
 is_thrown world name h = by_loaded (class_named world name) refl h
@@ -62,29 +63,34 @@ is_thrown world name h = by_loaded (class_named world name) refl h
     by_loaded (Some l) e k = let parts = and_parts l.by_system (below_throwable world l) k in record
         { l = l; named = e; by_system = parts.0; below = parts.1 }
 
-raised_is_thrown : (guests : World) (name : List ℕ) → IsTrue (list_any (bytes_eq name) raised_names) → IsThrown (with_guests guests) name
-raised_is_thrown guests name h =
+raised_is_thrown : (library : List Class) (guests : World) (name : List ℕ) → IsTrue (list_any (bytes_eq name) raised_names) → IsThrown (with_guests library guests) name
+raised_is_thrown library guests name h =
     let found = any_found (bytes_eq name) raised_names h in
     let same : name ≡ found.0 = Rattle.jv_meaning_world.proofs.Up.same_name name found.0 found.2 in
-    subst (IsThrown (with_guests guests)) (sym same)
-    (is_thrown (with_guests guests) found.0 (all_at (λ (name : List ℕ). thrown_in (with_guests guests)
-    (class_named (with_guests guests) name)) raised_names found.0 (all_thrown guests) found.1))
+    subst (IsThrown (with_guests library guests)) (sym same)
+    (is_thrown (with_guests library guests) found.0 (all_at (λ (name : List ℕ). thrown_in (with_guests library guests)
+    (class_named (with_guests library guests) name)) raised_names found.0 (all_thrown library guests) found.1))
 
 -- a class of the system below Throwable is no interface
-system_plain : (guests : World) → list_all (λ (c : Class). not (below_throwable (with_guests guests) (loaded true c)) || not
-    (is_interface (loaded true c))) system_classes ≡ true
-system_plain guests = refl
+system_plain : (library : List Class) (guests : World) → list_all (λ (c : Class). not (below_throwable (with_guests library guests) (loaded true c)) || not
+    (is_interface (loaded true c))) (system_with library) ≡ true
+system_plain [] guests = refl
+system_plain (_ ∷ _) guests = refl
 
-out_below : (guests : World) → IsBelow (with_guests guests) (class_type (codes "java/lang/OutOfMemoryError")) throwable_type
-out_below guests = refl
+out_below : (library : List Class) (guests : World) → IsBelow (with_guests library guests) (class_type (codes "java/lang/OutOfMemoryError")) throwable_type
+out_below [] guests = refl
+out_below (_ ∷ _) guests = refl
 
-no_throwable_interface : (guests : World) → names_interface (with_guests guests) (codes "java/lang/Throwable") ≡ false
-no_throwable_interface guests = refl
+no_throwable_interface : (library : List Class) (guests : World) → names_interface (with_guests library guests) (codes "java/lang/Throwable") ≡ false
+no_throwable_interface [] guests = refl
+no_throwable_interface (_ ∷ _) guests = refl
 
-no_object_fields : (guests : World) (l : Loaded) → class_named (with_guests guests) object_name ≡ Some l → l.class.fields ≡ []
-no_object_fields guests l e =
-    let same : loaded true Rattle.jv_meaning_world.specs.System.Object.object ≡ l = cc in
-    ap (λ (x : Loaded). x.class.fields) (sym same)
+one_some : (l m : Loaded) → Some l ≡ Some m → l ≡ m
+one_some l m e = cc
+
+no_object_fields : (library : List Class) (guests : World) (l : Loaded) → class_named (with_guests library guests) object_name ≡ Some l → l.class.fields ≡ []
+no_object_fields [] guests l e = ap (λ (x : Loaded). x.class.fields) (sym (one_some _ l e))
+no_object_fields (_ ∷ _) guests l e = ap (λ (x : Loaded). x.class.fields) (sym (one_some _ l e))
 
 all_made : {A : Type 0} (test : A → Bool) (xs : List A) → ((x : A) → Contains xs x → test x ≡ true) → list_all test xs ≡ true
 all_made test [] h = refl
@@ -102,7 +108,7 @@ module _ (program : Program) (sound : IsSound program) where
 
   pub raised : (name : List ℕ) → IsTrue (list_any (bytes_eq name) raised_names) → IsThrown program.world name
   unfolding guests
-  raised name h = subst (λ (w : World). IsThrown w name) (sym sound.world) (raised_is_thrown guests name h)
+  raised name h = subst (λ (w : World). IsThrown w name) (sym sound.world) (raised_is_thrown sound.library guests name h)
 
   pub link_error_is_thrown : (error : LinkError) → IsThrown program.world (error_class error)
   link_error_is_thrown NoClassDefFoundError = raised (error_class NoClassDefFoundError) refl
@@ -118,13 +124,13 @@ module _ (program : Program) (sound : IsSound program) where
   pub throwable_is_plain : IsTrue (names_interface program.world (codes "java/lang/Throwable")) → ⊥
   unfolding guests
   throwable_is_plain h = clash (sym (ap (λ (w : World). names_interface w
-      (codes "java/lang/Throwable")) sound.world ∙ no_throwable_interface guests) ∙ h)
+      (codes "java/lang/Throwable")) sound.world ∙ no_throwable_interface sound.library guests) ∙ h)
 
   pub object_has_none : (l : Loaded) → class_named program.world object_name ≡ Some l → (name descriptor : List ℕ) (f : Field)
       → field_named l.class name descriptor ≡ Some f → ⊥
   unfolding guests
   object_has_none l e name descriptor f k =
-      no_field (no_object_fields guests l (ap (λ (w : World). class_named w object_name) (sym sound.world) ∙ e)) k
+      no_field (no_object_fields sound.library guests l (ap (λ (w : World). class_named w object_name) (sym sound.world) ∙ e)) k
     where
       no_field : l.class.fields ≡ [] → field_named l.class name descriptor ≡ Some f → ⊥
       no_field z k = not_some (sym (ap (Rattle.std.specs.List.find
@@ -144,7 +150,7 @@ module _ (program : Program) (sound : IsSound program) where
     below = below_is_transitive program.world sound.rooted (object_type h.object)
         (class_type (codes "java/lang/OutOfMemoryError")) throwable_type h.below
         (subst (λ (w : World). IsBelow w (class_type (codes "java/lang/OutOfMemoryError")) throwable_type) (sym sound.world)
-        (out_below guests));
+        (out_below sound.library guests));
   }
 
   -- what is above a class of the system is the system's
@@ -163,13 +169,13 @@ module _ (program : Program) (sound : IsSound program) where
       and_from (is_class_accepted program l) (list_all (is_class_accepted program) (above program.world l.class)) (or_left l.by_system _ by)
       (all_made (is_class_accepted program) (above program.world l.class) (λ s h. or_left s.by_system _ (above_by_system l here by s h)))
 
-  of_system : (l : Loaded) → Contains program.world l → l.by_system ≡ true → (c : Class) × Contains system_classes c × (loaded true c ≡ l)
-  of_system l here by = by_loader (Contains-append_cases (map (loaded true) system_classes) (map (loaded false) sound.guests) l
+  of_system : (l : Loaded) → Contains program.world l → l.by_system ≡ true → (c : Class) × Contains (system_with sound.library) c × (loaded true c ≡ l)
+  of_system l here by = by_loader (Contains-append_cases (map (loaded true) (system_with sound.library)) (map (loaded false) sound.guests) l
       (subst (λ (w : World). Contains w l) sound.world here))
     where
-      by_loader : Contains (map (loaded true) system_classes) l ⊎ Contains (map (loaded false) sound.guests) l
-          → (c : Class) × Contains system_classes c × (loaded true c ≡ l)
-      by_loader (inl k) = in_mapped true system_classes l k
+      by_loader : Contains (map (loaded true) (system_with sound.library)) l ⊎ Contains (map (loaded false) sound.guests) l
+          → (c : Class) × Contains (system_with sound.library) c × (loaded true c ≡ l)
+      by_loader (inl k) = in_mapped true (system_with sound.library) l k
       by_loader (inr k) = let c = in_mapped false sound.guests l k in absurd (clash (ap (λ (x : Loaded). x.by_system) c.2 ∙ by))
 
   -- objects can be made of each class that is thrown
@@ -178,7 +184,7 @@ module _ (program : Program) (sound : IsSound program) where
   makeable name h =
       let here = named_stands program.world name h.l h.named in
       let c = of_system h.l here h.by_system in
-      let below : below_throwable (with_guests guests) (loaded true c.0) ≡ true = subst
+      let below : below_throwable (with_guests sound.library guests) (loaded true c.0) ≡ true = subst
       (λ (w : World). below_throwable w (loaded true c.0) ≡ true) sound.world
       (subst (λ (x : Loaded). below_throwable program.world x ≡ true) (sym c.2) h.below) in
       record {
@@ -186,9 +192,9 @@ module _ (program : Program) (sound : IsSound program) where
         loadable = system_loadable program.world h.l h.by_system;
         verified = system_verified h.l here h.by_system;
         plain = ap is_interface (sym c.2)
-            ∙ or_second (below_throwable (with_guests guests) (loaded true c.0)) (is_interface (loaded true c.0))
-            (all_at (λ (c : Class). not (below_throwable (with_guests guests) (loaded true c)) || not
-            (is_interface (loaded true c))) system_classes c.0 (system_plain guests) c.1) below;
+            ∙ or_second (below_throwable (with_guests sound.library guests) (loaded true c.0)) (is_interface (loaded true c.0))
+            (all_at (λ (c : Class). not (below_throwable (with_guests sound.library guests) (loaded true c)) || not
+            (is_interface (loaded true c))) (system_with sound.library) c.0 (system_plain sound.library guests) c.1) below;
       }
 
 pub throwable_is_not_object : codes "java/lang/Throwable" ≡ object_name → ⊥
@@ -218,15 +224,17 @@ system_name name h = by_first (bytes_eq name (codes "java/lang/VerifyError")) re
 
 -- ---- java/lang/String: it can be made, and its one field holds an array of chars
 
-string_there : (guests : World) → class_named (with_guests guests) (codes "java/lang/String") ≡ Some
-    (loaded true Rattle.jv_meaning_world.specs.System.String.string)
-string_there _ = refl
+record StringKnown (world : World) : Type 0 where
+  l : Loaded
+  named : class_named world (codes "java/lang/String") ≡ Some l
+  by : l.by_system ≡ true
+  plain : is_interface l ≡ false
+  keys : map Rattle.jv_meaning_machine.specs.Objects.key_of (Rattle.jv_meaning_typing.specs.Layout.instance_fields world l) ≡
+      Rattle.jv_meaning_machine.specs.Literals.string_value ∷ []
 
-string_fields : (guests : World) → map Rattle.jv_meaning_machine.specs.Objects.key_of
-    (Rattle.jv_meaning_typing.specs.Layout.instance_fields (with_guests guests)
-    (loaded true Rattle.jv_meaning_world.specs.System.String.string)) ≡
-    Rattle.jv_meaning_machine.specs.Literals.string_value ∷ []
-string_fields _ = refl
+string_known : (library : List Class) (guests : World) → StringKnown (with_guests library guests)
+string_known [] _ = record { l = _; named = refl; by = refl; plain = refl; keys = refl }
+string_known (_ ∷ _) _ = record { l = _; named = refl; by = refl; plain = refl; keys = refl }
 
 pub record IsStringClass (program : Program) (l : Loaded) : Type 0 where
   pub makeable : IsMakeable program l
@@ -235,62 +243,52 @@ pub record IsStringClass (program : Program) (l : Loaded) : Type 0 where
       Rattle.jv_meaning_machine.specs.Literals.string_value ∷ []
 
 module _ (program : Program) (sound : IsSound program) where
-  one_string : (l m : Loaded) → Some l ≡ Some m → l ≡ m
-  one_string l m e = cc
+  string_in : StringKnown program.world
+  string_in = subst StringKnown (sym sound.world) (string_known sound.library (map (loaded false) sound.guests))
 
   pub string_class : (l : Loaded) → class_named program.world (codes "java/lang/String") ≡ Some l → IsStringClass program l
   string_class l e =
-      let same : loaded true Rattle.jv_meaning_world.specs.System.String.string ≡ l = one_string
-      (loaded true Rattle.jv_meaning_world.specs.System.String.string) l
-      (sym (string_there (map (loaded false) sound.guests)) ∙
-      (ap (λ (w : World). class_named w (codes "java/lang/String")) (sym sound.world) ∙ e)) in
+      let k = string_in in
+      let same : k.l ≡ l = one_some k.l l (sym k.named ∙ e) in
       let here = named_stands program.world (codes "java/lang/String") l e in
-      let by : l.by_system ≡ true = ap (λ (x : Loaded). x.by_system) (sym same) in
+      let by : l.by_system ≡ true = ap (λ (x : Loaded). x.by_system) (sym same) ∙ k.by in
       record {
         makeable = record {
           named = sound.named l here;
           loadable = system_loadable program.world l by;
           verified = system_verified program sound l here by;
-          plain = ap is_interface (sym same);
+          plain = ap is_interface (sym same) ∙ k.plain;
         };
         keys = subst (λ (x : Loaded). map Rattle.jv_meaning_machine.specs.Objects.key_of
             (Rattle.jv_meaning_typing.specs.Layout.instance_fields program.world x) ≡
-            Rattle.jv_meaning_machine.specs.Literals.string_value ∷ []) same
-            (ap (λ (w : World). map Rattle.jv_meaning_machine.specs.Objects.key_of
-            (Rattle.jv_meaning_typing.specs.Layout.instance_fields w
-            (loaded true Rattle.jv_meaning_world.specs.System.String.string))) sound.world ∙ string_fields
-            (map (loaded false) sound.guests));
+            Rattle.jv_meaning_machine.specs.Literals.string_value ∷ []) same k.keys;
       }
 
 -- ---- classes of the system that the machine means by their names
 
-throwable_there : (guests : World) → (l : Loaded) × (class_named (with_guests guests) (codes "java/lang/Throwable") ≡ Some l)
+throwable_there : (library : List Class) (guests : World) → (l : Loaded) × (class_named (with_guests library guests) (codes "java/lang/Throwable") ≡ Some l)
     × (is_interface l ≡ false)
-throwable_there _ = (_, refl, refl)
+throwable_there [] _ = (_, refl, refl)
+throwable_there (_ ∷ _) _ = (_, refl, refl)
 
-root_there : (guests : World) → (l : Loaded) × (class_named (with_guests guests) object_name ≡ Some l) × (l.by_system ≡ true)
-root_there _ = (_, refl, refl)
+root_there : (library : List Class) (guests : World) → (l : Loaded) × (class_named (with_guests library guests) object_name ≡ Some l) × (l.by_system ≡ true)
+root_there [] _ = (_, refl, refl)
+root_there (_ ∷ _) _ = (_, refl, refl)
 
 module _ (program : Program) (sound : IsSound program) where
   pub string_there_in : (l : Loaded) × (class_named program.world (codes "java/lang/String") ≡ Some l) × IsMakeable program l
   string_there_in =
-      let there : class_named program.world (codes "java/lang/String") ≡ Some
-      (loaded true Rattle.jv_meaning_world.specs.System.String.string) =
-      ap (λ (w : World). class_named w (codes "java/lang/String")) sound.world ∙ string_there (map (loaded false) sound.guests) in (
-        loaded true Rattle.jv_meaning_world.specs.System.String.string,
-        there,
-        (string_class program sound (loaded true Rattle.jv_meaning_world.specs.System.String.string) there).makeable,
-      )
+      let k = string_in program sound in (k.l, k.named, (string_class program sound k.l k.named).makeable)
 
   pub throwable_in : (l : Loaded) × (class_named program.world (codes "java/lang/Throwable") ≡ Some l) × (is_interface l ≡ false)
   throwable_in =
-      let t = throwable_there (map (loaded false) sound.guests) in
+      let t = throwable_there sound.library (map (loaded false) sound.guests) in
       (t.0, ap (λ (w : World). class_named w (codes "java/lang/Throwable")) sound.world ∙ t.1, t.2)
 
   pub root_in : (l : Loaded) × (class_named program.world object_name ≡ Some l) × (is_verified program l ≡ true)
       × (is_loadable program.world l ≡ true)
   root_in =
-      let t = root_there (map (loaded false) sound.guests) in
+      let t = root_there sound.library (map (loaded false) sound.guests) in
       let there : class_named program.world object_name ≡ Some t.0 = ap (λ (w : World). class_named w object_name) sound.world ∙ t.1 in (
         t.0,
         there,

@@ -1,18 +1,22 @@
 -- What holds of each class in the world of a judged guest: its file's rules, or the same by computation for a class of the system.
-use Rattle.std.proofs.Common.{◌≡◌, ◌⊎◌, inl, inr, ℕ, Bool, true, false, ◌&&◌, ◌||◌, List, [], ◌∷◌, ◌++◌, map, Option, Some, None, refl, sym, ap, subst}
-use Rattle.std.specs.Prelude.{is_none, if◌then◌else◌}
-use Rattle.std.specs.List.{Contains, list_all, All}
-use Rattle.std.proofs.lemmas.List.Elements.{Contains-append_cases, All-nil, All-cons}
+use Rattle.std.proofs.Common.{◌≡◌, ◌⊎◌, inl, inr, ℕ, Bool, true, false, ◌&&◌, ◌||◌, List, [], ◌∷◌, ◌++◌, map, Option, Some, None, refl, ap, subst}
+use Rattle.std.specs.Prelude.{◌==◌, is_none, if◌then◌else◌, unwrap_or}
+use Rattle.std.specs.List.{Contains, find, list_all, All}
+use Rattle.std.specs.Str.{bytes_eq}
+use Rattle.std.proofs.lemmas.Bool.{eqb-true}
+use Rattle.std.proofs.lemmas.List.Elements.{Contains-append_cases, Contains-append_left, Contains-append_right, All-nil, All-cons}
 use Rattle.jv_text.specs.Types.{TypesAgree}
 use Rattle.jv_pool.specs.declared.constant.Constant.TheVariants.{String}
 use Rattle.jv_pool.specs.Constants.{Entry}
 use Rattle.jv_class.specs.Class.{Class, Field, Method}
 use Rattle.jv_meaning_world.specs.FileContent.{FileContent, IsContent, AreContents}
 use Rattle.jv_meaning_world.specs.declared.content.Content.TheVariants.{OtherVersion, NoClassFile, MoreThanProfile, Holds}
-use Rattle.jv_meaning_world.specs.World.{Loaded, World, loaded, is_reserved, has_class, with_class_of, joined_all, classes_in}
+use Rattle.jv_meaning_world.specs.World.{HostClasses, Loaded, World, loaded, is_reserved, has_class, with_class_of, joined_all, classes_in}
 use Rattle.jv_meaning_world.proofs.Up.{none, single, first, later}
-use Rattle.jv_meaning_world.specs.System.Classes.{system_classes, classes_with_files}
+use Rattle.jv_meaning_world.specs.Library.{borrowers, borrowers_more, can_lend, lent, system_with, with_library, with_methods_of}
+use Rattle.jv_meaning_world.specs.System.Classes.{classes_with_files}
 use Rattle.jv_meaning_world.specs.System.Io.{io}
+use Rattle.jv_meaning_world.proofs.OrderWorlds.{in_library, to_held}
 use Rattle.jv_meaning_world.proofs.OrderChains.{all_at}
 use Rattle.jv_meaning_machine.specs.Alone.{Judged, IsJudged}
 use Rattle.jv_sound.proofs.Logic.{clash}
@@ -35,14 +39,29 @@ class_passes c =
 abbrev names_pass : Class → Bool
 names_pass c = class_name_test c.name && super_name_test c.super_class
 
-system_passes : list_all class_passes system_classes ≡ true
-system_passes = refl
+-- the system's classes that have files, before anything is lent to them
+abbrev own_with_files : List Class → List Class
+own_with_files [] = classes_with_files
+own_with_files (first ∷ more) = borrowers
 
-system_names_pass : list_all names_pass system_classes ≡ true
-system_names_pass = refl
+abbrev later_interfaces : List Class → List Class
+later_interfaces [] = []
+later_interfaces (first ∷ more) = borrowers_more
 
-with_files_coded : list_all (λ (c : Class). list_all code_test c.methods) classes_with_files ≡ true
-with_files_coded = refl
+own_passes : (library : List Class) → list_all class_passes (own_with_files library ++ later_interfaces library) ≡ true
+own_passes [] = refl
+own_passes (first ∷ more) = refl
+
+own_names_pass : (library : List Class) → list_all names_pass (own_with_files library ++ later_interfaces library) ≡ true
+own_names_pass [] = refl
+own_names_pass (first ∷ more) = refl
+
+own_coded : (library : List Class) → list_all (λ (c : Class). list_all code_test c.methods) (own_with_files library ++ later_interfaces library) ≡ true
+own_coded [] = refl
+own_coded (first ∷ more) = refl
+
+io_passes : (class_passes io && names_pass io) ≡ true
+io_passes = refl
 
 no_initial_text : (f : Field) → is_none f.initial ≡ true → IsInitialText f.initial
 no_initial_text f e = by_value f.initial e
@@ -127,34 +146,118 @@ held_formed agree (bytes ∷ files) (file ∷ contents) are class k = by_part (�
     by_part again (inl here) = content (subst (IsContent bytes) (single file (Holds class) here) are.0)
     by_part again (inr there) = again there
 
--- each class of the world is formed; and it is coded, or it is host/Io
-pub world_is_formed : TypesAgree → (files : List (List ℕ)) (judged : Judged) → IsJudged files judged → (l : Loaded)
-    → Contains judged.program.world l → IsFormed l.class × (IsCoded l.class ⊎ (l ≡ loaded true io))
-world_is_formed agree files judged right l here = by_loader (Contains-append_cases (map (loaded true) system_classes)
-    (map (loaded false) (classes_in right.contents)) l (subst (λ (w : World). Contains w l) right.world here))
-  where
-    of_system : (c : Class) → Contains classes_with_files c ⊎ Contains (io ∷ []) c → IsCoded c ⊎ (loaded true c ≡ loaded true io)
-    of_system c (inl k) = inl (record {
-      coded = λ m h. all_at code_test c.methods m
-          (all_at (λ (c : Class). list_all code_test c.methods) classes_with_files c with_files_coded k) h;
-    })
-    of_system c (inr k) = inr (ap (loaded true) (sym (single io c k)))
+-- ---- the system's classes with what a library lends them
 
-    of_guest : (c : Class) → Contains [] c ⊎ Contains right.contents (Holds c) → Both c
-    of_guest c (inl k) = absurd (none c k)
+same_flags : (c by : Class) → can_lend c by ≡ true → by.access_flags ≡ c.access_flags
+same_flags c by e = eqb-true by.access_flags c.access_flags (and_parts (bytes_eq by.name c.name) (by.access_flags == c.access_flags) e).1
+
+lent_formed : (c by : Class) → Both c → Both by → by.access_flags ≡ c.access_flags → Both (with_methods_of by c)
+lent_formed c by own other same = (
+  record {
+    named = own.0.named;
+    superclass = own.0.superclass;
+    fields = own.0.fields;
+    initials = own.0.initials;
+    methods = λ m k. subst (λ (flags : ℕ). method_test flags m ≡ true) same (other.0.methods m k);
+    constants = other.0.constants;
+  },
+  record { coded = other.1.coded },
+)
+
+found_can : (c : Class) (library : List Class) (by : Class) → find (can_lend c) library ≡ Some by → (can_lend c by ≡ true) × Contains library by
+found_can c [] by e = absurd cc
+found_can c (x ∷ library) by e = by_test (can_lend c x) refl e (λ k. found_can c library by k)
+  where
+    by_test : (b : Bool) → can_lend c x ≡ b → (if b then Some x else find (can_lend c) library) ≡ Some by
+        → (find (can_lend c) library ≡ Some by → (can_lend c by ≡ true) × Contains library by) → (can_lend c by ≡ true) × Contains (x ∷ library) by
+    by_test true t k again =
+        let same : x ≡ by = cc in
+        (subst (λ (y : Class). can_lend c y ≡ true) same t, subst (λ (y : Class). Contains (x ∷ library) y) same (first x library))
+    by_test false t k again = let found = again k in (found.0, later x library by found.1)
+
+lender_formed : (library : List Class) (c : Class) → Both c → ((by : Class) → Contains library by → Both by) → Both (lent library c)
+lender_formed library c own each = by_found (find (can_lend c) library) refl
+  where
+    by_found : (o : Option Class) → find (can_lend c) library ≡ o → Both (with_methods_of (unwrap_or o c) c)
+    by_found None e = own
+    by_found (Some by) e = let can = found_can c library by e in lent_formed c by own (each by can.1) (same_flags c by can.0)
+
+each_lent : (library : List Class) (own : List Class) → ((c : Class) → Contains own c → Both c) → ((by : Class) → Contains library by → Both by)
+    → (c : Class) → Contains (map (lent library) own) c → Both c
+each_lent library [] all each c h = absurd (none c h)
+each_lent library (x ∷ own) all each c h =
+    by_part (λ k. each_lent library own (λ y j. all y (later x own y j)) each c k) (Contains-append_cases (lent library x ∷ []) (map (lent library) own) c h)
+  where
+    by_part : (Contains (map (lent library) own) c → Both c) → Contains (lent library x ∷ []) c ⊎ Contains (map (lent library) own) c → Both c
+    by_part again (inl k) = subst Both (single (lent library x) c k) (lender_formed library x (all x (first x own)) each)
+    by_part again (inr k) = again k
+
+module _ (library : List Class) (each : (by : Class) → Contains library by → Both by) where
+  own_all : (c : Class) → Contains (own_with_files library ++ later_interfaces library) c → Both c
+  own_all c h =
+      let all = own_with_files library ++ later_interfaces library in (
+        passes_formed c (all_at class_passes all c (own_passes library) h) (all_at names_pass all c (own_names_pass library) h),
+        record { coded = λ m k. all_at code_test c.methods m (all_at (λ (c : Class). list_all code_test c.methods) all c (own_coded library) h) k },
+      )
+
+system_formed : (library : List Class) → ((by : Class) → Contains library by → Both by) → (c : Class) → Contains (system_with library) c
+    → IsFormed c × (IsCoded c ⊎ (c ≡ io))
+system_formed [] each c h = by_part (Contains-append_cases classes_with_files (io ∷ []) c h)
+  where
+    by_part : Contains classes_with_files c ⊎ Contains (io ∷ []) c → IsFormed c × (IsCoded c ⊎ (c ≡ io))
+    by_part (inl k) = let both = own_all [] each c (Contains-append_left classes_with_files [] c k) in (both.0, inl both.1)
+    by_part (inr k) =
+        let is = single io c k in
+        subst (λ (x : Class). IsFormed x × (IsCoded x ⊎ (x ≡ io))) is
+        (passes_formed io (and_parts (class_passes io) (names_pass io) io_passes).0 (and_parts (class_passes io) (names_pass io) io_passes).1, inr refl)
+system_formed (first_one ∷ more) each c h = by_part (Contains-append_cases (map (lent library) own) (io ∷ map (lent library) last) c h)
+  where
+    library : List Class
+    library = first_one ∷ more
+
+    own : List Class
+    own = own_with_files (first_one ∷ more)
+
+    last : List Class
+    last = later_interfaces (first_one ∷ more)
+
+    by_last : Contains (io ∷ []) c ⊎ Contains (map (lent library) last) c → IsFormed c × (IsCoded c ⊎ (c ≡ io))
+    by_last (inl k) =
+        let is = single io c k in
+        subst (λ (x : Class). IsFormed x × (IsCoded x ⊎ (x ≡ io))) is
+        (passes_formed io (and_parts (class_passes io) (names_pass io) io_passes).0 (and_parts (class_passes io) (names_pass io) io_passes).1, inr refl)
+    by_last (inr k) =
+        let both = each_lent library last (λ y j. own_all library each y (Contains-append_right own last y j)) each c k in (both.0, inl both.1)
+
+    by_part : Contains (map (lent library) own) c ⊎ Contains (io ∷ map (lent library) last) c → IsFormed c × (IsCoded c ⊎ (c ≡ io))
+    by_part (inl k) =
+        let both = each_lent library own (λ y j. own_all library each y (Contains-append_left own last y j)) each c k in (both.0, inl both.1)
+    by_part (inr k) = by_last (Contains-append_cases (io ∷ []) (map (lent library) last) c k)
+
+-- each class of the world is formed; and it is coded, or it is host/Io
+pub world_is_formed : TypesAgree → (library files : List (List ℕ)) (judged : Judged) → IsJudged library files judged → (l : Loaded)
+    → Contains judged.program.world l → IsFormed l.class × (IsCoded l.class ⊎ (l ≡ loaded true io))
+world_is_formed agree library files judged right l here = by_loader (Contains-append_cases (map (loaded true) host.system)
+    (map (loaded false) (classes_in host right.contents)) l (subst (λ (w : World). Contains w l) right.world here))
+  where
+    host : HostClasses
+    host = with_library right.given
+
+    each : (by : Class) → Contains right.given by → Both by
+    each by h = held_formed agree library (map Holds right.given) right.gives.held by (to_held right.given by h)
+
+    of_guest : (c : Class) → Contains host.front c ⊎ Contains right.contents (Holds c) → Both c
+    of_guest c (inl k) = each c (in_library right.given c k)
     of_guest c (inr k) = held_formed agree files right.contents right.held c k
 
-    by_loader : Contains (map (loaded true) system_classes) l ⊎ Contains (map (loaded false) (classes_in right.contents)) l
+    by_loader : Contains (map (loaded true) host.system) l ⊎ Contains (map (loaded false) (classes_in host right.contents)) l
         → IsFormed l.class × (IsCoded l.class ⊎ (l ≡ loaded true io))
     by_loader (inl k) =
-        let c = in_mapped true system_classes l k in
-        subst (λ (x : Loaded). IsFormed x.class × (IsCoded x.class ⊎ (x ≡ loaded true io))) c.2 (
-          passes_formed c.0 (all_at class_passes system_classes c.0 system_passes c.1)
-              (all_at names_pass system_classes c.0 system_names_pass c.1),
-          of_system c.0
-              (Contains-append_cases classes_with_files (io ∷ []) c.0 c.1),
-        )
+        let c = in_mapped true host.system l k in
+        let formed = system_formed right.given each c.0 c.1 in
+        subst (λ (x : Loaded). IsFormed x.class × (IsCoded x.class ⊎ (x ≡ loaded true io))) c.2
+        (formed.0, elim formed.1 [ inl coded ↦ inl coded | inr is ↦ inr (ap (loaded true) is) ])
     by_loader (inr k) =
-        let c = in_mapped false (classes_in right.contents) l k in
-        let both = of_guest c.0 (joined_from [] right.contents c.0 c.1) in
+        let c = in_mapped false (classes_in host right.contents) l k in
+        let both = of_guest c.0 (joined_from host.front right.contents c.0 c.1) in
         subst (λ (x : Loaded). IsFormed x.class × (IsCoded x.class ⊎ (x ≡ loaded true io))) c.2 (both.0, inl both.1)

@@ -5,25 +5,20 @@ use Rattle.std.specs.List.{Contains, AllByRecursion}
 use Rattle.jv_text.specs.declared.descriptor.FieldTypeOf.{FieldTypeOf}
 use Rattle.jv_stackmap.specs.declared.verification.VerificationTypeOf.TheVariants as types
 use Rattle.jv_stackmap.specs.Types.{FrameType, value_type}
-use Rattle.jv_meaning_world.specs.System.Classes.{system_classes}
+use Rattle.jv_meaning_world.specs.Library.{system_with}
 use Rattle.jv_class.specs.Class.{Class, method_named}
-use Rattle.jv_meaning_world.specs.World.{Loaded, World, class_named, loaded}
+use Rattle.jv_meaning_world.specs.World.{Loaded, class_named, loaded}
 use Rattle.jv_meaning_world.specs.Laws.Above.{SystemStandsAlone}
 use Rattle.jv_meaning_world.specs.Verdicts.{is_loadable}
 use Rattle.jv_meaning_world.specs.Overriding.{Declared}
 use Rattle.jv_meaning_world.specs.Laws.Order.{IsRooted}
 use Rattle.jv_meaning_typing.specs.Environment.{Environment, IsEnvironment}
-use Rattle.jv_meaning_typing.specs.Judgement.{AreTyped, IsVerdictOfClass}
-use Rattle.jv_meaning_typing.specs.declared.verdict.Verdict.TheVariants.{Accepted}
+use Rattle.jv_meaning_typing.specs.Judgement.{AreTyped}
 use Rattle.jv_meaning_typing.specs.Typing.{Assignment, IsTyping}
 use Rattle.jv_stackmap.specs.Frames.{PlacedFrame}
 use Rattle.jv_meaning_machine.specs.State.{Program, is_class_accepted}
 use Rattle.jv_meaning_machine.specs.Initialization.{is_verified}
 use Rattle.jv_meaning_machine.specs.Alone.{FindsInstructions}
-
--- The classes of the system are accepted. (What is judged of a guest's files doesn't say so.)
-abbrev pub IsSystemAccepted : World → Type 0
-IsSystemAccepted world = (l : Loaded) → Contains world l → IsTrue l.by_system → IsVerdictOfClass world l Accepted
 
 -- ---- what a class file's rules leave to know of a class by its names
 
@@ -70,9 +65,10 @@ pub record IsChecked (program : Program) (env : Environment) : Type 0 where
 pub record IsSound (program : Program) : Type 0 where
   pub rooted : IsRooted program.world
   pub alone : SystemStandsAlone program.world
-  -- the system's classes stand first, and what follows is the guest's
+  -- the system's classes stand first, with what a library lends them; what follows is the library's and the guest's
+  pub library : List Class
   pub guests : List Class
-  pub world : program.world ≡ map (loaded true) system_classes ++ map (loaded false) guests
+  pub world : program.world ≡ map (loaded true) (system_with library) ++ map (loaded false) guests
   pub named : (l : Loaded) → Contains program.world l → class_named program.world l.class.name ≡ Some l
   pub typed : (l : Loaded) → Contains program.world l → IsTrue (is_class_accepted program l) → AreTyped program.world l l.class.methods
   pub loadable : (l : Loaded) → Contains program.world l → IsTrue (is_class_accepted program l) → IsTrue (is_loadable program.world l)

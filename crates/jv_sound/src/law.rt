@@ -1,6 +1,6 @@
 //! The law.
 
-ghost use Rattle.jv_sound.specs.Law.{NeverFaults, ObjectsAreLoadable, InitializationsAreLoadable};
+ghost use Rattle.jv_sound.specs.Law.{NeverFaults, NoLibraryStands, ObjectsAreLoadable, InitializationsAreLoadable};
 
 use jv_code::{next_starts, one_list, stands_in_list};
 use jv_text::types_agree;
@@ -35,3 +35,8 @@ pub fn initializations_are_loadable()
     next_starts();
     stands_in_list();
 }
+
+/// Where there is no library, the system's classes stand in the world of any guest.
+pub fn no_library_stands()
+    ensures { NoLibraryStands }
+{}

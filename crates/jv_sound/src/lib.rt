@@ -8,4 +8,6 @@
 
 mod law;
 
-pub use law::{initializations_are_loadable, never_faults, objects_are_loadable};
+pub use law::{
+    initializations_are_loadable, never_faults, no_library_stands, objects_are_loadable,
+};

@@ -6,6 +6,7 @@ use Rattle.std.proofs.lemmas.Bool.{and_parts}
 use Rattle.std.proofs.lemmas.List.Elements.{All-nil, All-cons, Contains-append_cases}
 use Rattle.jv_class.specs.Class.{Class, Method}
 use Rattle.jv_meaning_world.specs.FileContent.{FileContent}
+use Rattle.jv_meaning_world.specs.Library.{with_library}
 use Rattle.jv_meaning_world.specs.System.Classes.{system_classes}
 use Rattle.jv_meaning_world.specs.declared.verdict.LoadVerdict.{LoadVerdict}
 use Rattle.jv_meaning_world.specs.World.{Loaded, World, loaded, world_of, classes_in}
@@ -66,38 +67,38 @@ classes_plain world (c ∷ classes) h l (suc k, less, e) =
 
 -- ---- a class of the system stands among the first
 
-among_first : (files : List FileContent) (l : Loaded) → Contains (world_of system_classes files) l → IsTrue l.by_system
+among_first : (files : List FileContent) (l : Loaded) → Contains (world_of (with_library []) files) l → IsTrue l.by_system
     → Contains (map (loaded true) system_classes) l
 among_first files l there by_system = by_part (Contains-append_cases (map (loaded true) system_classes)
-    (map (loaded false) (classes_in files)) l there)
+    (map (loaded false) (classes_in (with_library []) files)) l there)
   where
     unlike : (b : Bool) → IsTrue b → b ≡ false → ⊥
     unlike true h e = absurd cc
     unlike false h e = absurd cc
 
-    by_part : Contains (map (loaded true) system_classes) l ⊎ Contains (map (loaded false) (classes_in files)) l
+    by_part : Contains (map (loaded true) system_classes) l ⊎ Contains (map (loaded false) (classes_in (with_library []) files)) l
         → Contains (map (loaded true) system_classes) l
     by_part (inl first) = first
-    by_part (inr guest) = absurd (unlike l.by_system by_system (of_loader false (classes_in files) l guest))
+    by_part (inr guest) = absurd (unlike l.by_system by_system (of_loader false (classes_in (with_library []) files) l guest))
 
 -- ---- laws
 
 pub system_is_typed : SystemIsTyped
 system_is_typed files l there by_system =
-    classes_typed (world_of system_classes files) system_shown system_classes (system_types (map (loaded false) (classes_in files))) l
+    classes_typed (world_of (with_library []) files) system_shown system_classes (system_types (map (loaded false) (classes_in (with_library []) files))) l
     (among_first files l there by_system)
 
 pub system_is_accepted : SystemIsAccepted
 system_is_accepted files l there by_system =
-    subst (λ (why : Option LoadVerdict). IsVerdictBehind (world_of system_classes files) l why Accepted)
-    (sym (classes_plain (world_of system_classes files) system_classes (system_is_plain (map (loaded false) (classes_in files))) l
+    subst (λ (why : Option LoadVerdict). IsVerdictBehind (world_of (with_library []) files) l why Accepted)
+    (sym (classes_plain (world_of (with_library []) files) system_classes (system_is_plain (map (loaded false) (classes_in (with_library []) files))) l
     (among_first files l there by_system)))
     (system_is_typed files l there by_system)
 
 -- `one` is a law of jv_meaning_typing
 pub system_is_unbroken : OneJudgement → SystemIsUnbroken
 system_is_unbroken one files l fault there by_system broken =
-    unlike (one (world_of system_classes files) l Accepted (Verify fault) (system_is_accepted files l there by_system) broken)
+    unlike (one (world_of (with_library []) files) l Accepted (Verify fault) (system_is_accepted files l there by_system) broken)
   where
     unlike : Accepted ≡ Verify fault → ⊥
     unlike e = cc

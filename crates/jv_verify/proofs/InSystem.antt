@@ -6,6 +6,7 @@ use Rattle.std.proofs.lemmas.Bool.{and_parts}
 use Rattle.jv_meaning_world.specs.FileContent.{FileContent}
 use Rattle.jv_class.specs.Class.{Class}
 use Rattle.jv_meaning_world.specs.System.Classes.{system_classes}
+use Rattle.jv_meaning_world.specs.Library.{with_library}
 use Rattle.jv_meaning_world.specs.declared.verdict.LoadVerdict.{LoadVerdict}
 use Rattle.jv_meaning_world.specs.World.{Loaded, World, loaded, world_of, classes_in}
 use Rattle.jv_meaning_world.specs.Verdicts.{verdict_of_class}
@@ -38,12 +39,12 @@ all_plain guests = refl
 
 module _ (contents : List FileContent) where
   abbrev guests : World
-  guests = map (loaded false) (classes_in contents)
+  guests = map (loaded false) (classes_in (with_library []) contents)
 
   -- nothing is wrong with them before their methods are looked at
-  pub plain_at : (k : ℕ) (l : Loaded) → k < length system_classes → slice_get (world_of system_classes contents) k ≡ Some l → verdict_of_class (world_of system_classes contents) l ≡ None
+  pub plain_at : (k : ℕ) (l : Loaded) → k < length system_classes → slice_get (world_of (with_library []) contents) k ≡ Some l → verdict_of_class (world_of (with_library []) contents) l ≡ None
   plain_at k l less e =
       let found = at_place true system_classes guests k l less e in
-      let one = passes (λ (c : Class). is_none (verdict_of_class (world_of system_classes contents) (loaded true c))) system_classes k found.0 (all_plain guests) found.1 in
-      subst (λ (x : Loaded). verdict_of_class (world_of system_classes contents) x ≡ None) (sym found.2)
-      (none_of (verdict_of_class (world_of system_classes contents) (loaded true found.0)) one)
+      let one = passes (λ (c : Class). is_none (verdict_of_class (world_of (with_library []) contents) (loaded true c))) system_classes k found.0 (all_plain guests) found.1 in
+      subst (λ (x : Loaded). verdict_of_class (world_of (with_library []) contents) x ≡ None) (sym found.2)
+      (none_of (verdict_of_class (world_of (with_library []) contents) (loaded true found.0)) one)

@@ -8,7 +8,7 @@ use Rattle.jv_meaning_world.specs.declared.content.Content.TheVariants.{OtherVer
 use Rattle.jv_meaning_world.specs.declared.verdict.LoadVerdict.{LoadVerdict}
 use Rattle.jv_meaning_world.specs.declared.verdict.LoadVerdict.TheVariants.{Reserved, Duplicate, Circular, NoSuper, WrongKind, NoAccess, FinalBroken}
 use Rattle.jv_meaning_world.specs.Above.{is_circular, superclasses}
-use Rattle.jv_meaning_world.specs.World.{Loaded, World, loaded, is_reserved, has_class, with_class_of, joined_all, classes_in, world_of}
+use Rattle.jv_meaning_world.specs.World.{HostClasses, Loaded, World, loaded, is_reserved, has_class, with_class_of, joined_all, classes_in, world_of}
 use Rattle.jv_meaning_world.specs.Verdicts.{verdict_of_class, verdict_behind, load_verdict, each_super, is_loadable, have_right_kind, can_name_supers, has_final_super, breaks_final}
 use Rattle.jv_verify.specs.Inside.Numbered.{joins, next_number, number_behind}
 
@@ -76,17 +76,17 @@ one_of_world world l =
     by_tests false false false false true = refl
     by_tests false false false false false = refl
 
-class_joins : (system : List Class) (earlier : List FileContent) (world : World) (class : Class)
-    → with_class_of (classes_in earlier) (Holds class) ≡ cond (joins (verdict_behind system earlier world (Holds class))) (classes_in earlier ++ class ∷ []) (classes_in earlier)
-class_joins system earlier world class =
-    by_tests (is_reserved class.name) (has_class (classes_in earlier) class.name) (verdict_of_class world (loaded false class)) (one_of_world world (loaded false class))
+class_joins : (host : HostClasses) (earlier : List FileContent) (world : World) (class : Class)
+    → with_class_of (classes_in host earlier) (Holds class) ≡ cond (joins (verdict_behind host earlier world (Holds class))) (classes_in host earlier ++ class ∷ []) (classes_in host earlier)
+class_joins host earlier world class =
+    by_tests (is_reserved class.name) (has_class (classes_in host earlier) class.name) (verdict_of_class world (loaded false class)) (one_of_world world (loaded false class))
   where
     by_tests : (r h : Bool) (v : Option LoadVerdict) → joins v ≡ true
-        → cond (r || h) (classes_in earlier) (classes_in earlier ++ class ∷ []) ≡ cond (joins (cond r (Some Reserved) (cond h (Some Duplicate) v)))
-        (classes_in earlier ++ class ∷ []) (classes_in earlier)
+        → cond (r || h) (classes_in host earlier) (classes_in host earlier ++ class ∷ []) ≡ cond (joins (cond r (Some Reserved) (cond h (Some Duplicate) v)))
+        (classes_in host earlier ++ class ∷ []) (classes_in host earlier)
     by_tests true h v e = refl
     by_tests false true v e = refl
-    by_tests false false v e = ap (λ b. cond b (classes_in earlier ++ class ∷ []) (classes_in earlier)) (sym e)
+    by_tests false false v e = ap (λ b. cond b (classes_in host earlier ++ class ∷ []) (classes_in host earlier)) (sym e)
 
 one_more : (n : ℕ) (classes : List Class) (class : Class) (b : Bool) → n + length (cond b (classes ++ class ∷ []) classes) ≡ cond b ((n + length classes) + 1) (n + length classes)
 one_more n classes class false = refl
@@ -94,58 +94,59 @@ one_more n classes class true =
     let more = length-append classes (class ∷ []) in
     omega (arith, more)
 
-number_of : (system : List Class) (earlier : List FileContent) (world : World) (f : FileContent) → length system + length
-    (with_class_of (classes_in earlier) f) ≡ next_number (number_behind system earlier) (verdict_behind system earlier world f)
-number_of system earlier world OtherVersion = refl
-number_of system earlier world NoClassFile = refl
-number_of system earlier world MoreThanProfile = refl
-number_of system earlier world (Holds class) =
-    ap (λ (cs : List Class). length system + length cs) (class_joins system earlier world class)
-    ∙ one_more (length system) (classes_in earlier) class (joins (verdict_behind system earlier world (Holds class)))
+number_of : (host : HostClasses) (earlier : List FileContent) (world : World) (f : FileContent) → length host.system + length
+    (with_class_of (classes_in host earlier) f) ≡ next_number (number_behind host earlier) (verdict_behind host earlier world f)
+number_of host earlier world OtherVersion = refl
+number_of host earlier world NoClassFile = refl
+number_of host earlier world MoreThanProfile = refl
+number_of host earlier world (Holds class) =
+    ap (λ (cs : List Class). length host.system + length cs) (class_joins host earlier world class)
+    ∙ one_more (length host.system) (classes_in host earlier) class (joins (verdict_behind host earlier world (Holds class)))
 
 -- what is wrong with a file whose class is one of the world's is wrong with the class
-pub joined_verdict : (system : List Class) (earlier : List FileContent) (world : World) (class : Class) → IsTrue (joins (verdict_behind system earlier world (Holds class)))
-    → verdict_behind system earlier world (Holds class) ≡ verdict_of_class world (loaded false class)
-joined_verdict system earlier world class on = by_tests (is_reserved class.name) (has_class (classes_in earlier) class.name) (verdict_of_class world (loaded false class)) on
+pub joined_verdict : (host : HostClasses) (earlier : List FileContent) (world : World) (class : Class) → IsTrue (joins (verdict_behind host earlier world (Holds class)))
+    → verdict_behind host earlier world (Holds class) ≡ verdict_of_class world (loaded false class)
+joined_verdict host earlier world class on = by_tests (is_reserved class.name) (has_class (classes_in host earlier) class.name) (verdict_of_class world (loaded false class)) on
   where
     by_tests : (r h : Bool) (v : Option LoadVerdict) → IsTrue (joins (cond r (Some Reserved) (cond h (Some Duplicate) v))) → cond r (Some Reserved) (cond h (Some Duplicate) v) ≡ v
     by_tests true h v on = absurd cc
     by_tests false true v on = absurd cc
     by_tests false false v on = refl
 
-must_hold : (system : List Class) (earlier : List FileContent) (world : World) (f : FileContent) → IsTrue (joins (verdict_behind system earlier world f)) → (class : Class) × (f ≡ Holds class)
-must_hold system earlier world OtherVersion h = absurd cc
-must_hold system earlier world NoClassFile h = absurd cc
-must_hold system earlier world MoreThanProfile h = absurd cc
-must_hold system earlier world (Holds class) h = (class, refl)
+must_hold : (host : HostClasses) (earlier : List FileContent) (world : World) (f : FileContent) → IsTrue (joins (verdict_behind host earlier world f)) → (class : Class) × (f ≡ Holds class)
+must_hold host earlier world OtherVersion h = absurd cc
+must_hold host earlier world NoClassFile h = absurd cc
+must_hold host earlier world MoreThanProfile h = absurd cc
+must_hold host earlier world (Holds class) h = (class, refl)
 
 -- ---- the file at a place
 
-module _ (system : List Class) (contents : List FileContent) (k : ℕ) (f : FileContent) (at : slice_get contents k ≡ Some f) where
-  verdict_is : load_verdict system contents k ≡ verdict_behind system (take k contents) (world_of system contents) f
+module _ (host : HostClasses) (contents : List FileContent) (k : ℕ) (f : FileContent) (at : slice_get contents k ≡ Some f) where
+  verdict_is : load_verdict host contents k ≡ verdict_behind host (take k contents) (world_of host contents) f
   verdict_is = rw at refl
 
-  pub next_behind : (why : Option LoadVerdict) → why ≡ load_verdict system contents k → number_behind system (take (suc k) contents) ≡ next_number (number_behind system (take k contents)) why
+  pub next_behind : (why : Option LoadVerdict) → why ≡ load_verdict host contents k → number_behind host (take (suc k) contents) ≡ next_number (number_behind host (take k contents)) why
   next_behind why e =
-      ap (λ (cs : List Class). length system + length cs) (joined_next [] contents k f at)
-      ∙ (number_of system (take k contents) (world_of system contents) f ∙ ap (next_number (number_behind system (take k contents))) (sym (e ∙ verdict_is)))
+      ap (λ (cs : List Class). length host.system + length cs) (joined_next host.front contents k f at)
+      ∙ (number_of host (take k contents) (world_of host contents) f ∙ ap (next_number (number_behind host (take k contents))) (sym (e ∙ verdict_is)))
 
-  pub stands : (why : Option LoadVerdict) → why ≡ load_verdict system contents k → IsTrue (joins why)
-      → (class : Class) × (f ≡ Holds class) × (slice_get (world_of system contents) (number_behind system (take k contents)) ≡ Some (loaded false class))
+  pub stands : (why : Option LoadVerdict) → why ≡ load_verdict host contents k → IsTrue (joins why)
+      → (class : Class) × (f ≡ Holds class) × (slice_get (world_of host contents) (number_behind host (take k contents)) ≡ Some (loaded false class))
   stands why e on =
-      let is : why ≡ verdict_behind system (take k contents) (world_of system contents) f = e ∙ verdict_is in
-      let on_f : IsTrue (joins (verdict_behind system (take k contents) (world_of system contents) f)) = subst (λ w. IsTrue (joins w)) is on in
-      let held = must_hold system (take k contents) (world_of system contents) f on_f in
-      let on_class : joins (verdict_behind system (take k contents) (world_of system contents) (Holds held.0)) ≡ true =
-      subst (λ g. joins (verdict_behind system (take k contents) (world_of system contents) g) ≡ true) held.1 on_f in
-      let here : joined_all [] (take (suc k) contents) ≡ classes_in (take k contents) ++ held.0 ∷ [] =
-      joined_next [] contents k f at ∙ (ap (with_class_of (classes_in (take k contents))) held.1
-      ∙ (class_joins system (take k contents) (world_of system contents) held.0 ∙ ap (λ b. cond b (classes_in (take k contents) ++ held.0 ∷ []) (classes_in (take k contents))) on_class)) in
-      let more = all_grow (joined_all [] (take (suc k) contents)) (drop (suc k) contents) in
-      let all : classes_in contents ≡ (classes_in (take k contents) ++ held.0 ∷ []) ++ more.0 = joined_parts [] contents (suc k) ∙ (more.1 ∙ ap (λ (cs : List Class). cs ++ more.0) here) in (
+      let is : why ≡ verdict_behind host (take k contents) (world_of host contents) f = e ∙ verdict_is in
+      let on_f : IsTrue (joins (verdict_behind host (take k contents) (world_of host contents) f)) = subst (λ w. IsTrue (joins w)) is on in
+      let held = must_hold host (take k contents) (world_of host contents) f on_f in
+      let on_class : joins (verdict_behind host (take k contents) (world_of host contents) (Holds held.0)) ≡ true =
+      subst (λ g. joins (verdict_behind host (take k contents) (world_of host contents) g) ≡ true) held.1 on_f in
+      let here : joined_all host.front (take (suc k) contents) ≡ classes_in host (take k contents) ++ held.0 ∷ [] =
+      joined_next host.front contents k f at ∙ (ap (with_class_of (classes_in host (take k contents))) held.1
+      ∙ (class_joins host (take k contents) (world_of host contents) held.0 ∙ ap (λ b. cond b (classes_in host (take k contents) ++ held.0 ∷ []) (classes_in host (take k contents))) on_class)) in
+      let more = all_grow (joined_all host.front (take (suc k) contents)) (drop (suc k) contents) in
+      let all : classes_in host contents ≡ (classes_in host (take k contents) ++ held.0 ∷ []) ++ more.0 =
+      joined_parts host.front contents (suc k) ∙ (more.1 ∙ ap (λ (cs : List Class). cs ++ more.0) here) in (
         held.0,
         held.1,
-        behind_system system (map (loaded false) (classes_in contents)) (length (classes_in (take k contents)))
-            ∙ (ap (λ (cs : List Class). slice_get (map (loaded false) cs) (length (classes_in (take k contents)))) all
-            ∙ at_end (classes_in (take k contents)) held.0 more.0),
+        behind_system host.system (map (loaded false) (classes_in host contents)) (length (classes_in host (take k contents)))
+            ∙ (ap (λ (cs : List Class). slice_get (map (loaded false) cs) (length (classes_in host (take k contents)))) all
+            ∙ at_end (classes_in host (take k contents)) held.0 more.0),
       )

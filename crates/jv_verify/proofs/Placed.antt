@@ -6,11 +6,13 @@ use Rattle.std.proofs.lemmas.List.{length-append}
 use Rattle.jv_meaning_world.specs.Numbers.{HoldsAtNumber}
 use Rattle.jv_class.specs.Class.{Class}
 use Rattle.jv_loader.specs.Loading.{Loading, AreLoaded}
+use Rattle.jv_loader.proofs.NoLibrary.{loaded_verdict, loaded_world}
 use Rattle.jv_meaning_world.specs.FileContent.{FileContent, AreContents}
 use Rattle.jv_meaning_world.specs.declared.content.Content.TheVariants.{OtherVersion, NoClassFile, MoreThanProfile, Holds}
 use Rattle.jv_meaning_world.specs.System.Classes.{system_classes}
+use Rattle.jv_meaning_world.specs.Library.{with_library}
 use Rattle.jv_meaning_world.specs.declared.verdict.LoadVerdict.{LoadVerdict}
-use Rattle.jv_meaning_world.specs.World.{Loaded, World, classes_in, loaded, world_of}
+use Rattle.jv_meaning_world.specs.World.{HostClasses, Loaded, World, classes_in, loaded, world_of}
 use Rattle.jv_meaning_world.specs.Verdicts.{load_verdict, verdict_at, verdict_behind, verdict_of_class}
 use Rattle.jv_meaning_typing.specs.declared.verdict.Verdict.{Verdict}
 use Rattle.jv_meaning_typing.specs.declared.verdict.Verdict.TheVariants.{Accepted, Refused}
@@ -19,6 +21,10 @@ use Rattle.jv_verify.specs.Files.{Verified, AreVerdicts, AreVerified, AcceptedAr
 use Rattle.jv_verify.specs.Inside.Numbered.{joins, next_number, number_behind, IsPassed, IsVerdictAt, AreVerdictsBelow}
 use Rattle.jv_verify.proofs.Numbered.{joined_verdict, next_behind, stands}
 use Rattle.jv_verify.proofs.InSystem.{plain_at}
+
+-- what a host gives that has no library
+abbrev host : HostClasses
+host = with_library []
 
 -- ---- lists
 
@@ -101,43 +107,43 @@ of_content world n None (Holds class) v h at =
     one_class : (c : Class) → Holds class ≡ Holds c → c ≡ class
     one_class c e = cc
 
-module _ (files : List (List ℕ)) (loading : Loading) (are : AreLoaded files loading) where
+module _ (files : List (List ℕ)) (loading : Loading) (are : AreLoaded [] files loading) where
   many : length are.contents ≡ length loading.verdicts
   many = as_many files are.contents are.read ∙ sym are.count
 
-  why_is : (k : ℕ) (why : Option LoadVerdict) → slice_get loading.verdicts k ≡ Some why → k < length loading.verdicts → why ≡ load_verdict system_classes are.contents k
+  why_is : (k : ℕ) (why : Option LoadVerdict) → slice_get loading.verdicts k ≡ Some why → k < length loading.verdicts → why ≡ load_verdict host are.contents k
   why_is k why e less =
-      let both : Some why ≡ Some (load_verdict system_classes are.contents k) = sym e ∙ are.verdict k (subst (λ n. k < n) are.count less) in
+      let both : Some why ≡ Some (load_verdict host are.contents k) = sym e ∙ loaded_verdict are k (subst (λ n. k < n) are.count less) in
       cc
 
-  module _ (k number : ℕ) (is : number ≡ number_behind system_classes (take k are.contents)) (why : Option LoadVerdict)
+  module _ (k number : ℕ) (is : number ≡ number_behind host (take k are.contents)) (why : Option LoadVerdict)
       (at : slice_get loading.verdicts k ≡ Some why) (less : k < length loading.verdicts) where
     content : (f : FileContent) × (slice_get are.contents k ≡ Some f)
     content = there are.contents k (subst (λ n. k < n) (sym many) less)
 
     found : IsTrue (joins why) → (class : Class) × (content.0 ≡ Holds class) × (slice_get loading.world number ≡ Some (loaded false class))
     found on =
-        let there = stands system_classes are.contents k content.0 content.1 why (why_is k why at less) on in
-        (there.0, there.1, ap (λ w. slice_get w number) are.world ∙ (ap (slice_get (world_of system_classes are.contents)) is ∙ there.2))
+        let there = stands host are.contents k content.0 content.1 why (why_is k why at less) on in
+        (there.0, there.1, ap (λ w. slice_get w number) (loaded_world are) ∙ (ap (slice_get (world_of host are.contents)) is ∙ there.2))
 
     pub stands_within : IsTrue (joins why) → number < length loading.world
     stands_within on =
         let at = found on in
         is_within loading.world number (loaded false at.0) at.2
 
-    next_is_behind : next_number number why ≡ number_behind system_classes (take (suc k) are.contents)
-    next_is_behind = ap (λ n. next_number n why) is ∙ sym (next_behind system_classes are.contents k content.0 content.1 why (why_is k why at less))
+    next_is_behind : next_number number why ≡ number_behind host (take (suc k) are.contents)
+    next_is_behind = ap (λ n. next_number n why) is ∙ sym (next_behind host are.contents k content.0 content.1 why (why_is k why at less))
 
     -- the verdict on the class of the file, which is one of the world's
     pub verdict_here : IsTrue (joins why) → HoldsAtNumber loading.world number (λ l. why ≡ verdict_of_class loading.world l)
     verdict_here on = λ l there.
         let here = found on in
         let same : loaded false here.0 ≡ l = some_same (loaded false here.0) l (sym here.2 ∙ there) in
-        let behind : why ≡ verdict_behind system_classes (take k are.contents) (world_of system_classes are.contents) (Holds here.0) =
-        why_is k why at less ∙ (ap (verdict_at system_classes are.contents k) content.1 ∙ ap (verdict_behind system_classes (take k are.contents) (world_of system_classes are.contents)) here.1) in
+        let behind : why ≡ verdict_behind host (take k are.contents) (world_of host are.contents) (Holds here.0) =
+        why_is k why at less ∙ (ap (verdict_at host are.contents k) content.1 ∙ ap (verdict_behind host (take k are.contents) (world_of host are.contents)) here.1) in
         subst (λ (x : Loaded). why ≡ verdict_of_class loading.world x) same
-        (subst (λ (w : World). why ≡ verdict_of_class w (loaded false here.0)) (sym are.world)
-        (behind ∙ joined_verdict system_classes (take k are.contents) (world_of system_classes are.contents) here.0 (subst (λ w. IsTrue (joins w)) behind on)))
+        (subst (λ (w : World). why ≡ verdict_of_class w (loaded false here.0)) (sym (loaded_world are))
+        (behind ∙ joined_verdict host (take k are.contents) (world_of host are.contents) here.0 (subst (λ w. IsTrue (joins w)) behind on)))
       where
         some_same : (a b : Loaded) → Some a ≡ Some b → a ≡ b
         some_same a b e = cc
@@ -177,28 +183,28 @@ module _ (files : List (List ℕ)) (loading : Loading) (are : AreLoaded files lo
           plus : k + 1 ≡ suc k
           plus = omega arith
 
-          this : IsVerdictOfFile system_classes are.contents k v
+          this : IsVerdictOfFile host are.contents k v
           this =
-              subst (λ o. IsVerdictOfContent (world_of system_classes are.contents) (load_verdict system_classes are.contents k) o v) (sym content.1)
-              (subst (λ w. IsVerdictOfContent (world_of system_classes are.contents) w (Some content.0) v) (why_is k why at less)
-              (subst (λ w. IsVerdictOfContent w why (Some content.0) v) are.world (of_content loading.world number why content.0 v is_verdict found)))
+              subst (λ o. IsVerdictOfContent (world_of host are.contents) (load_verdict host are.contents k) o v) (sym content.1)
+              (subst (λ w. IsVerdictOfContent (world_of host are.contents) w (Some content.0) v) (why_is k why at less)
+              (subst (λ w. IsVerdictOfContent w why (Some content.0) v) (loaded_world are) (of_content loading.world number why content.0 v is_verdict found)))
 
-          by_place : (place : ℕ) (w : Verdict) → (slice_get verdicts place ≡ Some w) ⊎ ((place ≡ length verdicts) × (v ≡ w)) → IsVerdictOfFile system_classes are.contents place w
+          by_place : (place : ℕ) (w : Verdict) → (slice_get verdicts place ≡ Some w) ⊎ ((place ≡ length verdicts) × (v ≡ w)) → IsVerdictOfFile host are.contents place w
           by_place place w (inl before) = below.verdict place w before
           by_place place w (inr (last, same)) =
-              subst (λ n. IsVerdictOfFile system_classes are.contents n w) (sym (last ∙ below.count)) (subst (IsVerdictOfFile system_classes are.contents k) same this)
+              subst (λ n. IsVerdictOfFile host are.contents n w) (sym (last ∙ below.count)) (subst (IsVerdictOfFile host are.contents k) same this)
 
   -- a class that is none of the files' is the system's
   pub of_system : (k number class : ℕ) → IsPassed are.contents k number class → k ≡ length loading.verdicts → class < length loading.world
       → HoldsAtNumber loading.world class (λ l. None ≡ verdict_of_class loading.world l)
   of_system k number class passed e within = λ l there.
-      subst (λ (w : World). None ≡ verdict_of_class w l) (sym are.world) (sym (plain_at are.contents class l first (ap (λ w. slice_get w class) (sym are.world) ∙ there)))
+      subst (λ (w : World). None ≡ verdict_of_class w l) (sym (loaded_world are)) (sym (plain_at are.contents class l first (ap (λ w. slice_get w class) (sym (loaded_world are)) ∙ there)))
     where
       all_taken : take k are.contents ≡ are.contents
       all_taken = take_all are.contents k (e ∙ sym many)
 
       size : length loading.world ≡ number
-      size = ap length are.world ∙ (length_of_world system_classes (classes_in are.contents) ∙ sym (passed.number_is ∙ ap (number_behind system_classes) all_taken))
+      size = ap length (loaded_world are) ∙ (length_of_world system_classes (classes_in host are.contents) ∙ sym (passed.number_is ∙ ap (number_behind host) all_taken))
 
       first : class < length system_classes
       first = by_before passed.before
@@ -223,5 +229,5 @@ pub accepted_are_typed : (contents : List FileContent) (verified : Verified) →
 accepted_are_typed contents verified are place class at accepted =
     let verdict = are.verdicts.verdict place Accepted accepted in
     subst (λ w. AreTyped w (loaded false class) class.methods) (sym are.world)
-    (typed_content (world_of system_classes contents) (load_verdict system_classes contents place) class
-    (subst (λ o. IsVerdictOfContent (world_of system_classes contents) (load_verdict system_classes contents place) o Accepted) at verdict))
+    (typed_content (world_of host contents) (load_verdict host contents place) class
+    (subst (λ o. IsVerdictOfContent (world_of host contents) (load_verdict host contents place) o Accepted) at verdict))

@@ -1,10 +1,10 @@
 -- The verdicts on a guest's files (JVMS 4.10, 5.3), with the classes that the guest can name.
-use Rattle.std.specs.Prelude.{◌≡◌, ℕ, false, List, length, Some, slice_get, IsTrue}
+use Rattle.std.specs.Prelude.{◌≡◌, ℕ, false, List, [], length, Some, slice_get, IsTrue}
 use Rattle.std.specs.List.{Contains}
 use Rattle.jv_class.specs.Class.{Class}
 use Rattle.jv_meaning_world.specs.FileContent.{FileContent, AreContents}
 use Rattle.jv_meaning_world.specs.declared.content.Content.TheVariants.{Holds}
-use Rattle.jv_meaning_world.specs.System.Classes.{system_classes}
+use Rattle.jv_meaning_world.specs.Library.{with_library}
 use Rattle.jv_meaning_world.specs.World.{Loaded, World, loaded, world_of}
 use Rattle.jv_meaning_typing.specs.declared.verdict.Verdict.{Verdict}
 use Rattle.jv_meaning_typing.specs.declared.verdict.Verdict.TheVariants.{Accepted}
@@ -34,11 +34,11 @@ pub record Verified : Type 0 where
 -- these are the verdicts on files that hold this, one for each
 pub record AreVerdicts (contents : List FileContent) (verdicts : List Verdict) : Type 0 where
   pub count : length verdicts ≡ length contents
-  pub verdict : (place : ℕ) (v : Verdict) → slice_get verdicts place ≡ Some v → IsVerdictOfFile system_classes contents place v
+  pub verdict : (place : ℕ) (v : Verdict) → slice_get verdicts place ≡ Some v → IsVerdictOfFile (with_library []) contents place v
 
 -- what is found of files that hold this
 pub record AreVerified (contents : List FileContent) (verified : Verified) : Type 0 where
-  pub world : verified.world ≡ world_of system_classes contents
+  pub world : verified.world ≡ world_of (with_library []) contents
   pub verdicts : AreVerdicts contents verified.verdicts
 
 -- these files hold the classes, and the verdicts are on them

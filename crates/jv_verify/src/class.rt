@@ -1,6 +1,6 @@
 //! The verdict on one class.
 
-ghost use Rattle.std.specs.Prelude.{◌≡◌, ◌<◌, ◌==◌, ◌&&◌, ℕ, List, IfOk, length};
+ghost use Rattle.std.specs.Prelude.{◌≡◌, ◌<◌, ◌==◌, ◌&&◌, ℕ, List, [], IfOk, length};
 ghost use Rattle.jv_loader.specs.Loading.{AreLoaded};
 ghost use Rattle.jv_meaning_world.specs.Numbers.{HoldsAtNumber};
 ghost use Rattle.jv_meaning_world.specs.Verdicts.{verdict_of_class};
@@ -23,7 +23,7 @@ fn is_of_file(why: Option<LoadVerdict>, number: usize, class: usize) -> bool
 /// What is wrong with the class with a number before its methods are looked at; nothing is with a class of the system.
 fn load_verdict_of(classes: &Classes<'_>, class: usize) -> Option<LoadVerdict>
     requires class { class < length classes.now.world }
-    requires loaded { (files : List (List ℕ)) × AreLoaded files classes.now }
+    requires loaded { (files : List (List ℕ)) × AreLoaded [] files classes.now }
     ensures { HoldsAtNumber classes.now.world class (λ l. result ≡ verdict_of_class classes.now.world l) }
 {
     let mut number = SYSTEM_COUNT;
@@ -50,7 +50,7 @@ pub fn check_class<'a>(
     class: usize,
 ) -> Result<Verdict, AllocError>
     requires class { class < length classes.now.world }
-    requires loaded { (files : List (List ℕ)) × AreLoaded files classes.now }
+    requires loaded { (files : List (List ℕ)) × AreLoaded [] files classes.now }
     ensures { IfOk result (λ verdict. HoldsAtNumber classes.now.world class (λ l. IsVerdictOfClass classes.now.world l verdict)) }
 {
     let why = load_verdict_of(classes, class);

@@ -1,6 +1,6 @@
 //! The verdicts on a guest's files.
 
-ghost use Rattle.std.specs.Prelude.{◌≡◌, ◌<◌, ℕ, List, IfOk, IfNone, IsTrue, length};
+ghost use Rattle.std.specs.Prelude.{◌≡◌, ◌<◌, ℕ, List, [], IfOk, IfNone, IsTrue, length};
 ghost use Rattle.jv_loader.specs.Loading.{AreLoaded};
 ghost use Rattle.jv_meaning_world.specs.World.{Loaded, World};
 ghost use Rattle.jv_meaning_typing.specs.Judgement.{IsVerdictOfMethods};
@@ -72,7 +72,7 @@ pub(crate) fn verdicts_of<'a>(
     state: RandomState,
     classes: &Classes<'a>,
 ) -> Result<Vec<Verdict>, AllocError>
-    requires { (files : List (List ℕ)) × AreLoaded files classes.now }
+    requires { (files : List (List ℕ)) × AreLoaded [] files classes.now }
     ensures { IfOk result (λ verdicts. AreVerdictsOn classes.now verdicts.items) }
 {
     let mut verdicts = Vec::new(alloc);

@@ -1,6 +1,6 @@
 //! A guest's classes, with the verdict on each of its files.
 
-ghost use Rattle.std.specs.Prelude.{◌≡◌, ◌<◌, ℕ, List, Some, IfOk, length, map, slice_get, true};
+ghost use Rattle.std.specs.Prelude.{◌≡◌, ◌<◌, ℕ, List, [], Some, IfOk, length, map, slice_get, true};
 ghost use Rattle.jv_loader.specs.Loading.{AreLoaded};
 ghost use Rattle.jv_meaning_world.specs.FileContent.{FileContent};
 ghost use Rattle.jv_verify.specs.Files.{AreFilesOf, AreVerified, AcceptedAreTyped, IsOfFiles, IsSystemAccepted, IsSystemTyped};
@@ -48,8 +48,8 @@ pub fn verify<'a>(
     state: RandomState,
     classes: Classes<'a>,
 ) -> Result<Verified<'a>, AllocError>
-    requires { (files : List (List ℕ)) × AreLoaded files classes }
-    ensures { IfOk result (λ v. (files : List (List ℕ)) (are : AreLoaded files classes.entry) → AreVerified are.contents v) }
+    requires { (files : List (List ℕ)) × AreLoaded [] files classes }
+    ensures { IfOk result (λ v. (files : List (List ℕ)) (are : AreLoaded [] files classes.entry) → AreVerified are.contents v) }
 {
     let verdicts = verdicts_of(alloc, state, &classes)?;
     Ok(Verified { classes, verdicts })

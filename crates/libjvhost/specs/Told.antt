@@ -1,5 +1,5 @@
 -- How what a guest brings and shows is told in C's structs.
-use Rattle.std.specs.Prelude.{◌≡◌, ℕ, ◌<◌, ⊤, map, length}
+use Rattle.std.specs.Prelude.{◌≡◌, ℕ, ◌<◌, ⊤, [], map, length}
 use Rattle.jv_limits.specs.Bytes.{bytes_of}
 use Rattle.jv_meaning_world.specs.declared.verdict.LoadVerdict.{LoadVerdict}
 use Rattle.jv_meaning_world.specs.declared.verdict.LoadVerdict.TheVariants as reasons
@@ -18,7 +18,7 @@ use Rattle.libjvhost.specs.declared.told.ToldVerdict.{ToldVerdict}
 -- ---- what a guest brings
 
 abbrev pub files_told : Guest → GuestFiles
-files_told g = record { files = map bytes_of g.files.now; main = g.main.now; input = g.input.now }
+files_told g = record { library = []; files = map bytes_of g.files.now; main = g.main.now; input = g.input.now }
 
 abbrev pub budget_told : Guest → Budget
 budget_told g = record { cells = g.cells; words = g.words; output = g.output }

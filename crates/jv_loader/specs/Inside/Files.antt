@@ -6,7 +6,7 @@ use Rattle.jv_meaning_world.specs.declared.content.Content.TheVariants.{OtherVer
 use Rattle.jv_meaning_world.specs.declared.verdict.LoadVerdict.{LoadVerdict}
 use Rattle.jv_meaning_world.specs.declared.verdict.LoadVerdict.TheVariants.{Version, Format, Unsupported, Reserved, Duplicate}
 use Rattle.jv_meaning_world.specs.World.{World, loaded, is_reserved, world_of}
-use Rattle.jv_meaning_world.specs.System.Classes.{system_classes}
+use Rattle.jv_meaning_world.specs.Library.{with_library}
 use Rattle.jv_meaning_world.specs.Verdicts.{verdict_of_class}
 use Rattle.jv_meaning_world.specs.Numbers.{number_named}
 
@@ -52,7 +52,7 @@ IsPlace world entry = IfOk entry (λ number. number < length world)
 
 -- the world of the system's classes and those of some files
 abbrev pub IsOfFiles : World → Type 0
-IsOfFiles world = (contents : List FileContent) × (world ≡ world_of system_classes contents)
+IsOfFiles world = (contents : List FileContent) × (world ≡ world_of (with_library []) contents)
 
 -- a file's content joins the list of classes, if it is a class of its own, and gets an entry
 abbrev pub IsPut : List ℕ → World → World → Result ℕ LoadVerdict → Type 0

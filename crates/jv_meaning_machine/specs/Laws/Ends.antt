@@ -26,12 +26,12 @@ EndFitsBehind = (program : Program) (before later : State) → EndFits before �
 -- So it is in each state of a guest alone.
 abbrev pub EndFitsAlone : Type 0
 EndFitsAlone =
-    (judged : Judged) (g : GuestFiles) (b : Budget) (feeds : List Feed) (n : ℕ) (s : State) → IsJudged g.files judged
+    (judged : Judged) (g : GuestFiles) (b : Budget) (feeds : List Feed) (n : ℕ) (s : State) → IsJudged g.library g.files judged
     → alone judged g b feeds n ≡ Ok s → EndFits s
 
 -- A guest that has ended stays as it is, over any number of its own steps, but for the input that joins.
 abbrev pub EndedGuestStays : Type 0
 EndedGuestStays =
-    (judged : Judged) (g : GuestFiles) (b : Budget) (feeds : List Feed) (n more : ℕ) (s : State) → IsJudged g.files judged
+    (judged : Judged) (g : GuestFiles) (b : Budget) (feeds : List Feed) (n more : ℕ) (s : State) → IsJudged g.library g.files judged
     → alone judged g b feeds n ≡ Ok s → (s.control.end ≡ Running → ⊥)
     → alone judged g b feeds (n + more) ≡ Ok (fed (came_behind n more feeds) s)

@@ -10,7 +10,7 @@ use Rattle.jv_meaning_machine.specs.Laws.Kept.{StayConstructed}
 
 -- a state of a guest alone, and a later one
 pub record IsLater (judged : Judged) (g : GuestFiles) (b : Budget) (feeds : List Feed) (before later : State) : Type 0 where
-  pub right : IsJudged g.files judged
+  pub right : IsJudged g.library g.files judged
   pub n : ℕ
   pub more : ℕ
   pub ran : alone judged g b feeds n ≡ Ok before

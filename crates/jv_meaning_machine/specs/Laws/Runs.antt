@@ -1,9 +1,9 @@
 -- Laws of runs (JVMS 2.5.3, 2.7; own): what stays from a state to each later one, and what a guest alone keeps of its budget.
 use Rattle.std.specs.Prelude.{◌≡◌, ℕ, zero, suc, ◌+◌, ◌≤◌, true, List, map, length, Some, Ok, IsSome, slice_get, codes}
-use Rattle.jv_meaning_world.specs.System.Classes.{system_classes}
+use Rattle.jv_meaning_world.specs.Library.{with_library}
 use Rattle.jv_meaning_world.specs.FileContent.{FileContent}
 use Rattle.jv_meaning_world.specs.World.{Loaded, class_named, world_of}
-use Rattle.jv_class.specs.Class.{Field}
+use Rattle.jv_class.specs.Class.{Class, Field}
 use Rattle.jv_meaning_world.specs.LookUps.{field_by}
 use Rattle.jv_meaning_typing.specs.Kind.{is_static_field}
 use Rattle.jv_meaning_typing.specs.Layout.{instance_fields}
@@ -86,7 +86,7 @@ WordsAreBudgeted =
 -- So are the cells that its objects have and those that are left, where there were enough for the objects of the start.
 abbrev pub CellsAreBudgeted : Type 0
 CellsAreBudgeted =
-    (judged : Judged) (g : GuestFiles) (b : Budget) (feeds : List Feed) (n : ℕ) (s : State) → IsJudged g.files judged
+    (judged : Judged) (g : GuestFiles) (b : Budget) (feeds : List Feed) (n : ℕ) (s : State) → IsJudged g.library g.files judged
     → first_cells ≤ b.cells → alone judged g b feeds n ≡ Ok s → used_cells s.memory + s.memory.cells ≡ b.cells
 
 -- Each static field of each class of its world is there, always.
@@ -105,9 +105,9 @@ ObjectsHaveFields =
     → (l : Loaded) × (class_named judged.program.world instance.class ≡ Some l)
     × (keys_in instance.fields ≡ map key_of (instance_fields judged.program.world l))
 
--- The objects of the start cost the same whatever a guest's files are.
+-- The objects of the start cost the same whatever the library and a guest's files are.
 abbrev pub FirstObjectsCost : Type 0
 FirstObjectsCost =
-    (contents : List FileContent) (error : Loaded)
-    → class_named (world_of system_classes contents) (codes "java/lang/OutOfMemoryError") ≡ Some error
-    → start_cells (world_of system_classes contents) error ≡ first_cells
+    (library : List Class) (contents : List FileContent) (error : Loaded)
+    → class_named (world_of (with_library library) contents) (codes "java/lang/OutOfMemoryError") ≡ Some error
+    → start_cells (world_of (with_library library) contents) error ≡ first_cells

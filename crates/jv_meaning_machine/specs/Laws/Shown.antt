@@ -1,7 +1,8 @@
 -- Laws of what a guest shows (own): it is one thing.
 use Rattle.std.specs.Prelude.{◌≡◌, ℕ, ◌+◌, ◌≤◌, List, [], length, Some, None, slice_get}
-use Rattle.jv_meaning_world.specs.System.Classes.{system_classes}
+use Rattle.jv_class.specs.Class.{Class}
 use Rattle.jv_meaning_world.specs.FileContent.{FileContent, AreContents}
+use Rattle.jv_meaning_world.specs.Library.{IsLibrary, with_library}
 use Rattle.jv_meaning_typing.specs.declared.verdict.Verdict.{Verdict}
 use Rattle.jv_meaning_typing.specs.Judgement.{IsVerdictOfFile}
 use Rattle.jv_meaning_machine.specs.State.End.{Running, NoMain}
@@ -12,21 +13,23 @@ use Rattle.jv_meaning_machine.specs.Laws.Kept.{BeginsWith}
 
 -- What is to be found of files is one thing: their classes, the verdict on each, the instructions of code and the units of texts.
 abbrev pub OneJudged : Type 0
-OneJudged = (files : List (List ℕ)) (one other : Judged) → IsJudged files one → IsJudged files other → one ≡ other
+OneJudged =
+    (library files : List (List ℕ)) (one other : Judged) → IsJudged library files one → IsJudged library files other → one ≡ other
 
--- Where files have contents, and each content a verdict, there is something to be found of them.
+-- Where files are a library, a guest's have contents, and each content a verdict, there is something to be found of them.
 abbrev pub JudgedByVerdicts : Type 0
 JudgedByVerdicts =
-    (files : List (List ℕ)) (contents : List FileContent) (verdicts : List Verdict) → AreContents files contents
-    → length verdicts ≡ length contents
-    → ((place : ℕ) (verdict : Verdict) → slice_get verdicts place ≡ Some verdict → IsVerdictOfFile system_classes contents place verdict)
-    → (judged : Judged) × IsJudged files judged × (judged.verdicts ≡ verdicts)
+    (library files : List (List ℕ)) (given : List Class) (contents : List FileContent) (verdicts : List Verdict)
+    → IsLibrary library given → AreContents files contents → length verdicts ≡ length contents
+    → ((place : ℕ) (verdict : Verdict) → slice_get verdicts place ≡ Some verdict
+    → IsVerdictOfFile (with_library given) contents place verdict)
+    → (judged : Judged) × IsJudged library files judged × (judged.verdicts ≡ verdicts)
 
--- What a guest without files shows: there is no main method.
+-- What a guest without files shows where there is no library: there is no main method.
 abbrev pub ShowsNoMain : Type 0
 ShowsNoMain =
     (main input : List ℕ) (b : Budget) (feeds : List Feed) (n : ℕ)
-    → Shows (record { files = []; main = main; input = input }) b feeds n
+    → Shows (record { library = []; files = []; main = main; input = input }) b feeds n
     (record { verdicts = []; steps = n; output = []; throws = 0; last = None; end = NoMain })
 
 -- What a guest shows alone after so many of its own steps is one thing.

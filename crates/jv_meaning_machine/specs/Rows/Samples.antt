@@ -62,7 +62,8 @@ budget output = record { cells = 64; words = 64; output = output }
 -- of a guest with an input, which is fed
 abbrev pub run_fed : Program → List ℕ → List ℕ → List Feed → ℕ → ℕ → OrFault Observed
 run_fed program main input feeds output n =
-    alone (record { program = program; verdicts = [] }) (record { files = []; main = main; input = input }) (budget output) feeds n
+    alone (record { program = program; verdicts = [] }) (record { library = []; files = []; main = main; input = input })
+    (budget output) feeds n
     >>= λ s. Ok (observation [] n s)
 
 abbrev pub run_with : Program → List ℕ → List ℕ → ℕ → ℕ → OrFault Observed

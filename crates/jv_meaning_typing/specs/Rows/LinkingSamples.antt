@@ -6,7 +6,7 @@ use Rattle.jv_text.specs.Descriptor.{field_text}
 use Rattle.jv_pool.specs.Constants.{MemberReference, member_of, name_and_descriptor}
 use Rattle.jv_class.specs.Class.{Class, Field, Method}
 use Rattle.jv_meaning_world.specs.declared.content.Content.TheVariants.{Holds}
-use Rattle.jv_meaning_world.specs.World.{Loaded, World, world_of, loaded}
+use Rattle.jv_meaning_world.specs.World.{Loaded, World, loaded, without_front, world_of}
 use Rattle.jv_meaning_world.specs.Rows.Files.{object_name, method_m, class_with, public_class, package_class, interface_with}
 use Rattle.jv_meaning_typing.specs.Uses.{Use, Site}
 use Rattle.jv_meaning_typing.specs.LinkErrors.{OrError, ◌>>=◌}
@@ -63,7 +63,7 @@ system =
     ∷ []
 
 abbrev pub world_with : List Class → World
-world_with classes = world_of system (map (λ c. Holds c) classes)
+world_with classes = world_of (without_front system) (map (λ c. Holds c) classes)
 
 abbrev pub guest : Class → Loaded
 guest class = loaded false class

@@ -17,7 +17,7 @@ use Rattle.jv_stackmap.specs.Frames.{Frame}
 use Rattle.jv_code.specs.Insns.{Instruction, insn_bytes}
 use Rattle.jv_code.specs.declared.insn.Insn.TheVariants as insns
 use Rattle.jv_meaning_world.specs.declared.content.Content.TheVariants.{Holds}
-use Rattle.jv_meaning_world.specs.World.{World, world_of}
+use Rattle.jv_meaning_world.specs.World.{World, without_front, world_of}
 use Rattle.jv_meaning_world.specs.Rows.Files.{object_name, class_with}
 use Rattle.jv_meaning_typing.specs.Rows.LinkingSamples.{system, guest, method, class, interface}
 use Rattle.jv_meaning_typing.specs.Environment.{Environment, offset_behind}
@@ -87,7 +87,7 @@ current = record (class_with 1 (codes "C") (Some (codes "p/B")) (codes "I" ∷ [
 
 abbrev pub world : World
 world =
-    world_of (class (codes "java/lang/Throwable") object_name [] ∷ system)
+    world_of (without_front (class (codes "java/lang/Throwable") object_name [] ∷ system))
     (Holds superclass ∷ Holds (interface (codes "I") [] []) ∷ Holds (interface (codes "J") [] []) ∷ Holds current ∷ [])
 
 -- ---- types
@@ -167,7 +167,7 @@ abbrev pub below_own_package : Environment
 below_own_package =
     record in_m {
       world =
-          world_of (class (codes "java/lang/Throwable") object_name [] ∷ system)
+          world_of (without_front (class (codes "java/lang/Throwable") object_name [] ∷ system))
           (Holds (record superclass { super_class = Some (codes "A") })
           ∷ Holds (record (class (codes "A") object_name []) { fields = field 4 (codes "a") ∷ [] })
           ∷ Holds (interface (codes "I") [] []) ∷ Holds (interface (codes "J") [] []) ∷ Holds current ∷ []);

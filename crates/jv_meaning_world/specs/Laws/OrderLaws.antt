@@ -1,16 +1,17 @@
 -- Laws of the order of verification types with interfaces erased (JVMS 4.10.1.2), in a world with java/lang/Object at the top.
-use Rattle.std.specs.Prelude.{◌≡◌, List, ℕ, ◌++◌, ◌||◌, map, Some, true, IsTrue}
+use Rattle.std.specs.Prelude.{◌≡◌, List, ℕ, ◌||◌, Some, IsTrue}
 use Rattle.std.specs.Str.{bytes_eq}
 use Rattle.jv_text.specs.declared.descriptor.FieldTypeOf.{FieldTypeOf}
 use Rattle.jv_stackmap.specs.declared.verification.VerificationTypeOf.TheVariants as types
 use Rattle.jv_stackmap.specs.Types.{FrameType, value_type}
 use Rattle.jv_class.specs.Class.{Class}
 use Rattle.jv_meaning_world.specs.FileContent.{FileContent, AreContents}
-use Rattle.jv_meaning_world.specs.World.{Loaded, World, class_named, loaded, world_of}
+use Rattle.jv_meaning_world.specs.Library.{IsLibrary, with_library}
+use Rattle.jv_meaning_world.specs.World.{Loaded, World, class_named, world_of}
 use Rattle.jv_meaning_world.specs.Above.{is_above}
 use Rattle.jv_meaning_world.specs.Verdicts.{is_loadable}
 use Rattle.jv_meaning_world.specs.Flow.{flows}
-use Rattle.jv_meaning_world.specs.Laws.Order.{object_name, names_interface, IsBelow, is_usable_reference, is_loadable_type, IsRooted, is_rooted_by}
+use Rattle.jv_meaning_world.specs.Laws.Order.{object_name, names_interface, IsBelow, is_usable_reference, is_loadable_type, IsRooted}
 
 -- ---- in every world
 
@@ -72,9 +73,9 @@ ArrayBelowClass =
 
 -- ---- which worlds are rooted
 
--- The world of a system's classes and of any files is, where the system's classes pass the test before whatever follows them.
+-- The world of a library and of a guest's files is.
 abbrev pub FilesAreRooted : Type 0
 FilesAreRooted =
-    (system : List Class) (contents : List FileContent) (files : List (List ℕ)) → AreContents files contents
-    → ((guests : World) → IsTrue (is_rooted_by system (map (loaded true) system ++ guests)))
-    → IsRooted (world_of system contents)
+    (given : List (List ℕ)) (library : List Class) → IsLibrary given library
+    → (contents : List FileContent) (files : List (List ℕ)) → AreContents files contents
+    → IsRooted (world_of (with_library library) contents)

@@ -6,7 +6,7 @@ use Rattle.jv_meaning_world.specs.FileContent.{FileContent}
 use Rattle.jv_meaning_world.specs.declared.content.Content.TheVariants.{OtherVersion, NoClassFile, MoreThanProfile, Holds}
 use Rattle.std.specs.Prelude.{map}
 use Rattle.std.specs.Option.{option_map, option_and_then}
-use Rattle.jv_meaning_world.specs.World.{World, world_of, class_named}
+use Rattle.jv_meaning_world.specs.World.{HostClasses, World, without_front, world_of, class_named}
 use Rattle.jv_meaning_world.specs.LookUps.{lookup_field, lookup_method, superinterfaces}
 use Rattle.jv_meaning_world.specs.Verdicts.{load_verdict}
 use Rattle.jv_meaning_world.specs.declared.verdict.LoadVerdict.{LoadVerdict}
@@ -55,11 +55,11 @@ with_m name super_name flags = class_with 1 name (Some super_name) [] (method_m 
 abbrev pub with_interface : List ℕ → List ℕ → Class
 with_interface name interface_name = class_with 1 name (Some object_name) (interface_name ∷ []) []
 
-abbrev pub system : List Class
-system = object ∷ final_class (codes "host/Io") ∷ []
+abbrev pub host : HostClasses
+host = without_front (object ∷ final_class (codes "host/Io") ∷ [])
 
 abbrev pub verdict : List FileContent → ℕ → Option LoadVerdict
-verdict files place = load_verdict system files place
+verdict files place = load_verdict host files place
 
 abbrev pub interface_with : List ℕ → List (List ℕ) → List Method → List Field → Class
 interface_with name supers methods fields = record {
@@ -89,7 +89,7 @@ class_between name super_name supers fields = record {
 }
 
 abbrev pub holding : List Class → World
-holding classes = world_of system (map (λ c. Holds c) classes)
+holding classes = world_of host (map (λ c. Holds c) classes)
 
 -- the class that declares what m()V, or the int x, is from the class of a name
 abbrev pub method_from : List Class → List ℕ → Option (List ℕ)

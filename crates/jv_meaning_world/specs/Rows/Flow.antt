@@ -6,7 +6,7 @@ use Rattle.jv_text.specs.declared.descriptor.Element.TheVariants as elements
 use Rattle.jv_stackmap.specs.declared.verification.VerificationTypeOf.TheVariants as types
 use Rattle.jv_stackmap.specs.Types.{FrameType}
 use Rattle.jv_stackmap.specs.Frames.{Frame}
-use Rattle.jv_meaning_world.specs.World.{World, world_of}
+use Rattle.jv_meaning_world.specs.World.{World, without_front, world_of}
 use Rattle.jv_meaning_world.specs.declared.content.Content.TheVariants.{Holds}
 use Rattle.jv_meaning_world.specs.Rows.Files.{object, object_name, interface, public_class, class_with}
 use Rattle.jv_meaning_world.specs.Flow.{flows}
@@ -16,7 +16,7 @@ use Rattle.jv_meaning_world.specs.FrameFlow.{frame_flows}
 -- that is not loadable
 abbrev pub world : World
 world =
-    world_of (object ∷ interface (codes "java/io/Serializable") ∷ [])
+    world_of (without_front (object ∷ interface (codes "java/io/Serializable") ∷ []))
     (Holds (public_class (codes "P") object_name) ∷ Holds (public_class (codes "C") (codes "P")) ∷ Holds (interface (codes "I"))
     ∷ Holds (class_with 1537 (codes "Broken") (Some object_name) (codes "Missing" ∷ []) []) ∷ [])
 

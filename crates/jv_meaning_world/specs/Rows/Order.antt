@@ -3,7 +3,7 @@ use Rattle.std.specs.Prelude.{◌≡◌, Bool, true, false, List, [], ◌∷◌,
 use Rattle.jv_stackmap.specs.declared.verification.VerificationTypeOf.TheVariants as types
 use Rattle.jv_stackmap.specs.Types.{FrameType}
 use Rattle.jv_class.specs.Class.{Class}
-use Rattle.jv_meaning_world.specs.World.{World, loaded, world_of}
+use Rattle.jv_meaning_world.specs.World.{World, loaded, without_front, world_of}
 use Rattle.jv_meaning_world.specs.declared.content.Content.TheVariants.{Holds}
 use Rattle.jv_meaning_world.specs.Rows.Files.{object, interface, public_class, class_with}
 use Rattle.jv_meaning_world.specs.Flow.{flows}
@@ -17,7 +17,7 @@ is_below world type other = flows world (erased world type) (erased world other)
 -- an interface J with a superclass P, and a class R with none beside java/lang/Object
 abbrev pub crooked : World
 crooked =
-    world_of (object ∷ [])
+    world_of (without_front (object ∷ []))
     (Holds (public_class (codes "P") object_name) ∷ Holds (class_with 1537 (codes "J") (Some (codes "P")) [] [])
     ∷ Holds (class_with 1 (codes "R") None [] []) ∷ [])
 
@@ -31,8 +31,8 @@ system =
 abbrev pub without_cloneable : World
 without_cloneable =
     world_of
-    (object ∷ public_class (codes "java/lang/Copier") object_name ∷ public_class (codes "java/lang/Cloneable") (codes "java/lang/Copier")
-    ∷ [])
+    (without_front (object ∷ public_class (codes "java/lang/Copier") object_name
+    ∷ public_class (codes "java/lang/Cloneable") (codes "java/lang/Copier") ∷ []))
     []
 
 pub record WorkedOrderRows : Type 0 where

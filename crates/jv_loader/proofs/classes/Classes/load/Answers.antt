@@ -1,4 +1,4 @@
-use Rattle.std.proofs.Common.{◌∙◌, map, sym, ap, subst}
+use Rattle.std.proofs.Common.{◌∙◌, [], map, sym, ap, subst}
 use Rattle.std.specs.List.{All}
 use Rattle.jv_loader.specs.Loading.{AreLoaded}
 use Rattle.jv_classes.specs.Inside.KeptNames.{texts_of}
@@ -19,7 +19,7 @@ returns c =
     let told = c.in_ok-verdicts.ensures ∙ (ap (λ w. map (verdict_of_entry w) c.deref.result.now) c.in_ok-table.ensures ∙ ap (map (verdict_of_entry c.put_files.new.list)) c.deref.ensures.value) in
     let all = loaded_all (texts_of c.args.files.now) c.in_ok-list.list c.put_files.new.list c.in_ok-entries.entries.items c.in_ok-list.ensures
     c.in_ok-entries.ensures c.in_ok-verdicts.verdicts.items told in
-    subst (λ w. AreLoaded (texts_of c.args.files.now) (record { world = w; verdicts = c.in_ok-verdicts.verdicts.items })) (sym c.in_ok-table.ensures) all
+    subst (λ w. AreLoaded [] (texts_of c.args.files.now) (record { world = w; verdicts = c.in_ok-verdicts.verdicts.items })) (sym c.in_ok-table.ensures) all
 
 pub are_straight-requires : goal.are_straight-requires
 are_straight-requires c =
