@@ -14,6 +14,7 @@ use Rattle.jv_program_base.specs.Failure.{failure_line}
 use Rattle.jv_program_base.specs.declared.failure.Failure.{Failure}
 use Rattle.jv_program_base.specs.declared.outcome.Outcome.{Outcome}
 use Rattle.jv_program_run.specs.Named.{IsRunFailure}
+use Rattle.jv_program_words.specs.declared.asked.ExplainOptions.{ExplainOptions}
 use Rattle.jv_program_words.specs.declared.asked.RunOptions.{RunOptions}
 use Rattle.jv_program_words.specs.Settings.Asked.{run, check, explain}
 use Rattle.jv_program_words.specs.CommandLine.{command_line}
@@ -194,8 +195,8 @@ module _ (disk : Option Disk) (line : List (List ℕ)) (b0 b1 : Option (List ℕ
 
   pub check_failed : (json : Bool) (names : List (List ℕ)) (failure : Failure) → AskFor line (check json names) → IsNamedFailure disk names failure → b1 ≡ b0
       → IsEarly disk line b0 b1 (Run failure)
-  check_failed json names failure asked failed unread = inr (inl (record { json = json; names = names; asked = inl asked; failed = failed; unread = unread }))
+  check_failed json names failure asked failed unread = inr (inl (record { names = names; asked = inl (json, asked); failed = failed; unread = unread }))
 
-  pub explain_failed : (json : Bool) (names : List (List ℕ)) (failure : Failure) → AskFor line (explain json names) → IsNamedFailure disk names failure → b1 ≡ b0
+  pub explain_failed : (options : ExplainOptions) (names : List (List ℕ)) (failure : Failure) → AskFor line (explain options names) → IsNamedFailure disk names failure → b1 ≡ b0
       → IsEarly disk line b0 b1 (Run failure)
-  explain_failed json names failure asked failed unread = inr (inl (record { json = json; names = names; asked = inr asked; failed = failed; unread = unread }))
+  explain_failed options names failure asked failed unread = inr (inl (record { names = names; asked = inr (options, asked); failed = failed; unread = unread }))

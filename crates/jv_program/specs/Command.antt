@@ -13,6 +13,7 @@ use Rattle.jv_program_base.specs.declared.outcome.Outcome.{Outcome}
 use Rattle.jv_program_run.specs.declared.settings.RunSettings.{RunSettings}
 use Rattle.jv_program_base.specs.Failure.{failure_line, failure_status}
 use Rattle.jv_program_run.specs.Named.{AreTaken, IsRunAs, IsRunFailure}
+use Rattle.jv_program_words.specs.declared.asked.ExplainOptions.{ExplainOptions}
 use Rattle.jv_program_words.specs.declared.asked.RunOptions.{RunOptions}
 use Rattle.jv_program_words.specs.Settings.{AskFor, AskForHelp, AreRefused}
 use Rattle.jv_program_words.specs.Settings.Asked.{run, check, explain}
@@ -38,7 +39,7 @@ abbrev pub IsBegun : (line : List (List ℕ)) → Type 0
 IsBegun line =
     ((options : RunOptions) × (folders : List (List ℕ)) × AskFor line (run options folders) × AreTaken (settings_of options) folders)
     ⊎ (((json : Bool) × (names : List (List ℕ)) × AskFor line (check json names))
-    ⊎ ((json : Bool) × (names : List (List ℕ)) × AskFor line (explain json names)))
+    ⊎ ((options : ExplainOptions) × (names : List (List ℕ)) × AskFor line (explain options names)))
 
 -- the words ask to run the guests of folders, and to be told besides how far the run is, or how long the processor took
 abbrev pub AskForCompany : (line : List (List ℕ)) → Type 0
@@ -66,10 +67,10 @@ pub record IsCheckReport (disk : Option Disk) (line : List (List ℕ)) (before a
 
 -- The words ask to explain the verdicts on class files, and the report is on these. Nothing is read of the input.
 pub record IsExplainReport (disk : Option Disk) (line : List (List ℕ)) (before after : Option (List ℕ)) (outcome : Outcome) : Type 0 where
-  pub json : Bool
+  pub options : ExplainOptions
   pub names : List (List ℕ)
-  pub asked : AskFor line (explain json names)
-  pub explained : IsExplainedAs disk json names outcome
+  pub asked : AskFor line (explain options names)
+  pub explained : IsExplainedAs disk options.json options.links names outcome
   pub unread : after ≡ before
 
 -- the report is what the words ask for
@@ -89,9 +90,8 @@ pub record IsRunFailed (disk : Option Disk) (line : List (List ℕ)) (before aft
 
 -- or to check class files, or to explain the verdicts on them
 pub record IsCheckFailed (disk : Option Disk) (line : List (List ℕ)) (before after : Option (List ℕ)) (failure : Failure) : Type 0 where
-  pub json : Bool
   pub names : List (List ℕ)
-  pub asked : AskFor line (check json names) ⊎ AskFor line (explain json names)
+  pub asked : ((json : Bool) × AskFor line (check json names)) ⊎ ((options : ExplainOptions) × AskFor line (explain options names))
   pub failed : IsNamedFailure disk names failure
   pub unread : after ≡ before
 

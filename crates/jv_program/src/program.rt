@@ -112,10 +112,11 @@ fn outcome_for<F: Folders, I: Read, P: Company>(
             names.as_slice(),
             folders,
         )?),
-        Settings::Explain(json, names) => Ok(explain_named(
+        Settings::Explain(options, names) => Ok(explain_named(
             alloc,
             state,
-            json,
+            options.json,
+            options.links,
             names.as_slice(),
             folders,
         )?),

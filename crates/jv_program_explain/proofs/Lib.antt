@@ -1,2 +1,3 @@
 pub mod InParts
+pub mod Numbering
 pub mod Saying

@@ -1,6 +1,6 @@
 -- What is said of files one by one.
-use Rattle.std.proofs.Common.{◌≡◌, ℕ, zero, suc, ◌+◌, List, [], ◌∷◌, ◌++◌, length, min, Option, Some, refl, sym, ap, subst, ◌∙◌, ◌⊎◌, inl, inr, arith}
-use Rattle.std.specs.Prelude.{slice_get}
+use Rattle.std.proofs.Common.{◌≡◌, ℕ, zero, suc, ◌+◌, ◌<◌, Bool, List, [], ◌∷◌, ◌++◌, length, take, min, Option, Some, refl, sym, ap, subst, ◌∙◌, ◌⊎◌, inl, inr, arith}
+use Rattle.std.specs.Prelude.{IsTrue, slice_get}
 use Rattle.std.proofs.lemmas.List.{length-append}
 use Rattle.jv_meaning_world.specs.FileContent.{FileContent, AreContents, IsContent}
 use Rattle.jv_meaning_world.specs.Library.{with_library}
@@ -9,10 +9,12 @@ use Rattle.jv_meaning_world.specs.Verdicts.{load_verdict}
 use Rattle.jv_meaning_world.specs.declared.verdict.LoadVerdict.{LoadVerdict}
 use Rattle.jv_meaning_typing.specs.declared.verdict.Verdict.{Verdict}
 use Rattle.jv_meaning_typing.specs.Judgement.{IsVerdictOfContent}
-use Rattle.jv_verify.specs.Files.{AreVerdicts}
-use Rattle.jv_explain.specs.Explained.{IsExplanation}
-use Rattle.jv_program_explain.specs.Explain.{AreExplained}
+use Rattle.jv_verify.specs.Files.{AreVerified, Verified}
+use Rattle.jv_verify.specs.Inside.Numbered.{joins, next_number, number_behind}
+use Rattle.jv_program_explain.specs.Explain.{AreExplained, IsSaid}
 use Rattle.jv_program_explain.specs.Inside.Below.{AreExplainedBelow}
+use Rattle.jv_program_explain.specs.Inside.Numbered.{IsTypedAt, StandsAt, tells_links, why_of}
+use Rattle.jv_program_explain.proofs.Numbering.{class_there, is_within, next_is, of_file, typed_there}
 
 pushed : {X : Type 0} (xs : List X) (x : X) (k : ℕ) (y : X) → slice_get (xs ++ x ∷ []) k ≡ Some y → (slice_get xs k ≡ Some y) ⊎ ((k ≡ length xs) × (x ≡ y))
 pushed [] x zero y e = inr (refl, cc)
@@ -43,41 +45,96 @@ as_many [] (c ∷ contents) h = absurd h
 as_many (b ∷ files) [] h = absurd h
 as_many (b ∷ files) (c ∷ contents) h = ap suc (as_many files contents h.1)
 
-module _ (files : List (List ℕ)) (contents : List FileContent) (are : AreContents files contents) (verdicts : List Verdict) (right : AreVerdicts contents verdicts) where
-  nothing : (xs : List (List ℕ)) → xs ≡ [] → (place : ℕ) (text : List ℕ) → slice_get xs place ≡ Some text → ⊥
-  nothing [] e zero text at = absurd cc
-  nothing [] e (suc k) text at = absurd cc
-  nothing (x ∷ xs) e place text at = absurd cc
+there : {X : Type 0} (xs : List X) (k : ℕ) → k < length xs → (x : X) × (slice_get xs k ≡ Some x)
+there [] k h = absurd (omega (arith, h))
+there (x ∷ xs) zero h = (x, refl)
+there (x ∷ xs) (suc k) h = there xs k (omega (arith, h))
 
-  pub none_yet : AreExplainedBelow contents verdicts 0 []
-  none_yet = record { count = refl; each = λ place content verdict text at v t. absurd (nothing [] refl place text t) }
+-- ---- one file after another
 
-  pub one_more : (k : ℕ) (said : List (List ℕ)) → AreExplainedBelow contents verdicts k said → (bytes : List ℕ) (verdict : Verdict) (text : List ℕ) → slice_get files k ≡ Some bytes
-      → slice_get verdicts k ≡ Some verdict
-      → ((world : World) (why : Option LoadVerdict) (content : FileContent) → IsContent bytes content → IsVerdictOfContent world why (Some content) verdict → IsExplanation content verdict text)
-      → AreExplainedBelow contents verdicts (k + 1) (said ++ text ∷ [])
-  one_more k said below bytes verdict text file judged says = record {
-    count = length-append said (text ∷ []) ∙ ap (λ (n : ℕ). n + 1) below.count;
-    each = λ place content v t at v_at t_at. by_place place content v t at v_at (pushed said text place t t_at);
-  }
-    where
-      by_place : (place : ℕ) (content : FileContent) (v : Verdict) (t : List ℕ) → slice_get contents place ≡ Some content → slice_get verdicts place ≡ Some v
-          → (slice_get said place ≡ Some t) ⊎ ((place ≡ length said) × (text ≡ t)) → IsExplanation content v t
-      by_place place content v t at v_at (inl before) = below.each place content v t at v_at before
-      by_place place content v t at v_at (inr (last, same)) =
-          let here : place ≡ k = last ∙ below.count in
-          let v_same : Some verdict ≡ Some v = sym judged ∙ (ap (slice_get verdicts) (sym here) ∙ v_at) in
-          let one : verdict ≡ v = cc in
-          let found : slice_get contents k ≡ Some content = ap (slice_get contents) (sym here) ∙ at in
-          let on : IsVerdictOfContent (world_of (with_library []) contents) (load_verdict (with_library []) contents k) (Some content) verdict =
-          subst (λ (o : Option FileContent). IsVerdictOfContent (world_of (with_library []) contents) (load_verdict (with_library []) contents k) o verdict) found (right.verdict k verdict judged) in
-          subst (λ (x : List ℕ). IsExplanation content v x) same
-          (subst (λ (w : Verdict). IsExplanation content w text) one
-          (says (world_of (with_library []) contents) (load_verdict (with_library []) contents k) content (content_at files contents are k bytes content file found) on))
+nothing : (xs : List (List ℕ)) → xs ≡ [] → (place : ℕ) (text : List ℕ) → slice_get xs place ≡ Some text → ⊥
+nothing [] e zero text at = absurd cc
+nothing [] e (suc k) text at = absurd cc
+nothing (x ∷ xs) e place text at = absurd cc
 
-  pub all_said : (k : ℕ) (said : List (List ℕ)) → AreExplainedBelow contents verdicts k said → k ≡ min (length files) (length verdicts) → AreExplained contents verdicts said
-  all_said k said below e = record {
-    count = below.count ∙ (e ∙ least (length files) (length verdicts) (sym (as_many files contents are) ∙ sym right.count));
+pub none_yet : (links : Bool) (contents : List FileContent) (verdicts : List Verdict) (number : ℕ) → number ≡ length (with_library []).system → AreExplainedBelow links contents verdicts 0 number []
+none_yet links contents verdicts number e = record {
+  number_is = number_at contents;
+  count = refl;
+  each = λ place content verdict text at v t. absurd (nothing [] refl place text t);
+}
+  where
+    number_at : (contents : List FileContent) → number ≡ number_behind (with_library []) (take 0 contents)
+    number_at [] = omega (arith, e)
+    number_at (f ∷ more) = omega (arith, e)
+
+module _ (files : List (List ℕ)) (contents : List FileContent) (are : AreContents files contents) (verified : Verified) (found : AreVerified contents verified) where
+  module _ (links : Bool) (k : ℕ) (less : k < length files) (v : Verdict) (judged : slice_get verified.verdicts k ≡ Some v) (number : ℕ)
+      (number_is : number ≡ number_behind (with_library []) (take k contents)) (world : World) (same : world ≡ verified.world) where
+    here : (f : FileContent) × (slice_get contents k ≡ Some f)
+    here =
+        let many = as_many files contents are in
+        there contents k (omega (arith, less, many))
+
+    is_world : world ≡ world_of (with_library []) contents
+    is_world = same ∙ found.world
+
+    pub typed_at : IsTrue (tells_links links v) → IsTypedAt world number
+    typed_at on =
+        subst (λ (w : World). IsTypedAt w number) (sym is_world)
+        (subst (λ (n : ℕ). IsTypedAt (world_of (with_library []) contents) n) (sym number_is)
+        (typed_there contents verified.verdicts found.verdicts k here.0 v here.1 judged links on))
+
+    pub within_at : IsTrue (joins (why_of v)) → number < length world
+    within_at on =
+        subst (λ (w : World). number < length w) (sym is_world)
+        (subst (λ (n : ℕ). n < length (world_of (with_library []) contents)) (sym number_is)
+        (is_within contents verified.verdicts found.verdicts k here.0 v here.1 judged on))
+
+    pub one_more : (said : List (List ℕ)) → AreExplainedBelow links contents verified.verdicts k number said → (bytes text : List ℕ) (next : ℕ) → slice_get files k ≡ Some bytes
+        → next ≡ next_number number (why_of v)
+        → ((why : Option LoadVerdict) (content : FileContent) → IsContent bytes content → IsVerdictOfContent world why (Some content) v
+        → (IsTrue (tells_links links v) → StandsAt world number content) → IsSaid links world content v text)
+        → AreExplainedBelow links contents verified.verdicts (k + 1) next (said ++ text ∷ [])
+    one_more said below bytes text next file next_on says = record {
+      number_is =
+          next_on
+          ∙ (ap (λ (n : ℕ). next_number n (why_of v)) number_is
+          ∙ (sym (next_is contents verified.verdicts found.verdicts k here.0 v here.1 judged) ∙ ap (λ (n : ℕ). number_behind (with_library []) (take n contents)) (sym plus)));
+      count = length-append said (text ∷ []) ∙ ap (λ (n : ℕ). n + 1) below.count;
+      each = λ place content w t at w_at t_at. by_place place content w t at w_at (pushed said text place t t_at);
+    }
+      where
+        plus : k + 1 ≡ suc k
+        plus = omega arith
+
+        said_here : IsSaid links (world_of (with_library []) contents) here.0 v text
+        said_here =
+            subst (λ (w : World). IsSaid links w here.0 v text) is_world
+            (says (load_verdict (with_library []) contents k) here.0 (content_at files contents are k bytes here.0 file here.1)
+            (subst (λ (w : World). IsVerdictOfContent w (load_verdict (with_library []) contents k) (Some here.0) v) (sym is_world)
+            (of_file contents verified.verdicts found.verdicts k here.0 v here.1 judged))
+            (λ on. subst (λ (w : World). StandsAt w number here.0) (sym is_world)
+            (subst (λ (n : ℕ). StandsAt (world_of (with_library []) contents) n here.0) (sym number_is)
+            (class_there contents verified.verdicts found.verdicts k here.0 v here.1 judged links on))))
+
+        by_place : (place : ℕ) (content : FileContent) (w : Verdict) (t : List ℕ) → slice_get contents place ≡ Some content → slice_get verified.verdicts place ≡ Some w
+            → (slice_get said place ≡ Some t) ⊎ ((place ≡ length said) × (text ≡ t)) → IsSaid links (world_of (with_library []) contents) content w t
+        by_place place content w t at w_at (inl before) = below.each place content w t at w_at before
+        by_place place content w t at w_at (inr (last, alike)) =
+            let now : place ≡ k = last ∙ below.count in
+            let w_same : Some v ≡ Some w = sym judged ∙ (ap (slice_get verified.verdicts) (sym now) ∙ w_at) in
+            let verdict_is : v ≡ w = cc in
+            let c_same : Some here.0 ≡ Some content = sym here.1 ∙ (ap (slice_get contents) (sym now) ∙ at) in
+            let content_is : here.0 ≡ content = cc in
+            subst (λ (x : List ℕ). IsSaid links (world_of (with_library []) contents) content w x) alike
+            (subst (λ (x : Verdict). IsSaid links (world_of (with_library []) contents) content x text) verdict_is
+            (subst (λ (x : FileContent). IsSaid links (world_of (with_library []) contents) x v text) content_is said_here))
+
+  pub all_said : (links : Bool) (k number : ℕ) (said : List (List ℕ)) → AreExplainedBelow links contents verified.verdicts k number said → k ≡ min (length files) (length verified.verdicts)
+      → AreExplained links contents verified.verdicts said
+  all_said links k number said below e = record {
+    count = below.count ∙ (e ∙ least (length files) (length verified.verdicts) (sym (as_many files contents are) ∙ sym found.verdicts.count));
     each = below.each;
   }
     where

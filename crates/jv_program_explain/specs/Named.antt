@@ -6,7 +6,7 @@ use Rattle.jv_program_check.specs.Named.{AreFilesAt}
 use Rattle.jv_program_explain.specs.Explain.{IsExplained}
 
 -- the files of the names were read, and their verdicts are explained as those on the files of one guest
-pub record IsExplainedAs (disk : Option Disk) (json : Bool) (names : List (List ℕ)) (outcome : Outcome) : Type 0 where
+pub record IsExplainedAs (disk : Option Disk) (json links : Bool) (names : List (List ℕ)) (outcome : Outcome) : Type 0 where
   pub files : List (List ℕ)
   pub read : AreFilesAt disk names files
-  pub explained : IsExplained json names files outcome
+  pub explained : IsExplained json links names files outcome

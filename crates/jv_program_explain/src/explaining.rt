@@ -5,16 +5,15 @@ ghost use Rattle.jv_limits.specs.FileLimits.{first_file_refusal};
 ghost use Rattle.jv_program_check.specs.Check.{IsCheckFailure, IsHostFailure};
 ghost use Rattle.jv_program_check.specs.Text.{check_status};
 ghost use Rattle.jv_program_explain.specs.Explain.{IsExplained};
-ghost use Rattle.jv_program_explain.specs.Inside.Below.{AreSaid};
 ghost use Rattle.jv_program_explain.specs.Text.{explain_report};
 
 use crate::report::Parts;
-use jv_explain::explain_file;
+use crate::said::said_of;
 use jv_json::{explained_values, json_lines};
 use jv_limits::first_file_refusal;
 use jv_loader::system_files;
 use jv_meaning_typing::Verdict;
-use jv_program_base::{Failure, Outcome, bytes_at, verdict_at};
+use jv_program_base::{Failure, Outcome};
 use jv_program_check::status_of;
 use jv_verify::verify_files;
 use std::alloc::{AllocError, Global};
@@ -66,32 +65,17 @@ fn outcome_of(
     })
 }
 
-/// What is said of files with these verdicts.
-fn said_of(alloc: Global, files: &[&[u8]], verdicts: &[Verdict]) -> Result<Vec<String>, AllocError>
-    ensures { IfOk result (λ said. AreSaid (map bytes_of files.now) verdicts.now (map string_bytes said.items)) }
-{
-    let mut said = Vec::new(alloc);
-    for place in 0..files.len().min(verdicts.len()) {
-        let bytes = bytes_at(files, place);
-        let verdict = verdict_at(verdicts, place);
-        let Ok(text) = explain_file(alloc, bytes, verdict) else {
-            return Err(AllocError);
-        };
-        said.push(text).map_err(AllocError::from)?;
-    }
-    Ok(said)
-}
-
 /// The verdicts on the files of one guest, and what is said of them, as they are printed.
 fn explained(
     alloc: Global,
     state: RandomState,
     json: bool,
+    links: bool,
     names: &[&[u8]],
     files: &[&[u8]],
 ) -> Result<Outcome, Failure>
     requires { first_file_refusal (map bytes_of files.now) ≡ None }
-    ensures ok { IfOk result (IsExplained json (map bytes_of names.now) (map bytes_of files.now)) }
+    ensures ok { IfOk result (IsExplained json links (map bytes_of names.now) (map bytes_of files.now)) }
     ensures err { IfErr result (IsHostFailure (map bytes_of files.now)) }
 {
     let Ok(system) = system_files(alloc) else {
@@ -100,13 +84,13 @@ fn explained(
     let Ok(verified) = verify_files(alloc, state, &system, files) else {
         return Err(Failure::HostMemory);
     };
-    let verdicts = verified.verdicts();
-    let said = said_of(alloc, files, verdicts)?;
-    Ok(outcome_of(alloc, json, names, verdicts, said.as_slice())?)
+    let said = said_of(alloc, links, &verified, files)?;
+    Ok(outcome_of(alloc, json, names, verified.verdicts(), said.as_slice())?)
 }
 
 /// Takes files of these names, as many as there are files, as those of one guest, runs nothing, and says of each what its
-/// verdict is, and of a method that breaks a rule where and which, in JSON or not.
+/// verdict is, of a method that breaks a rule where and which, and with links of a class that is accepted which references of its methods
+/// don't resolve (JVMS 5.4.3), in JSON or not.
 ///
 /// # Errors
 ///
@@ -117,16 +101,17 @@ pub fn explain_files(
     alloc: Global,
     state: RandomState,
     json: bool,
+    links: bool,
     names: &[&[u8]],
     files: &[&[u8]],
 ) -> Result<Outcome, Failure>
     requires { length names.now ≡ length files.now }
     ensures ok { IfOk result (λ outcome.
-        IsExplained json (map bytes_of names.now) (map bytes_of files.now) outcome) }
+        IsExplained json links (map bytes_of names.now) (map bytes_of files.now) outcome) }
     ensures err { IfErr result (λ failure. IsCheckFailure (map bytes_of files.now) failure) }
 {
     if let Some(fault) = first_file_refusal(files) {
         return Err(Failure::Refused(fault));
     }
-    explained(alloc, state, json, names, files)
+    explained(alloc, state, json, links, names, files)
 }

@@ -4,7 +4,9 @@
 
 mod explaining;
 mod named;
+mod numbers;
 mod report;
+mod said;
 
 pub use explaining::explain_files;
 pub use named::explain_named;

@@ -16,17 +16,25 @@ fn explain_read(
     alloc: Global,
     state: RandomState,
     json: bool,
+    links: bool,
     names: &[&str],
     files: &[Vec<u8>],
 ) -> Result<Outcome, Failure>
     requires { length names.now ≡ length files.now }
     ensures ok { IfOk result (λ outcome.
-        IsExplained json (map bytes_of names.now) (map (λ file. file.items) files.now) outcome) }
+        IsExplained json links (map bytes_of names.now) (map (λ file. file.items) files.now) outcome) }
     ensures err { IfErr result (IsReadFailure (map (λ file. file.items) files.now)) }
 {
     let names = bytes_of_texts(alloc, names)?;
     let files = bytes_of_files(alloc, files)?;
-    explain_files(alloc, state, json, names.as_slice(), files.as_slice())
+    explain_files(
+        alloc,
+        state,
+        json,
+        links,
+        names.as_slice(),
+        files.as_slice(),
+    )
 }
 
 /// Reads the files of these names, one for each name, and explains the verdicts on them as those on the files of one guest.
@@ -39,12 +47,13 @@ pub fn explain_named<F: Folders>(
     alloc: Global,
     state: RandomState,
     json: bool,
+    links: bool,
     names: &[&str],
     folders: &mut F,
 ) -> Result<Outcome, Failure>
-    ensures ok { IfOk result (IsExplainedAs (F.disk folders.old) json (map bytes_of names.now)) }
+    ensures ok { IfOk result (IsExplainedAs (F.disk folders.old) json links (map bytes_of names.now)) }
     ensures err { IfErr result (IsNamedFailure (F.disk folders.old) (map bytes_of names.now)) }
 {
     let files = read_classes(alloc, folders, names)?;
-    explain_read(alloc, state, json, names, files.as_slice())
+    explain_read(alloc, state, json, links, names, files.as_slice())
 }

@@ -2,7 +2,7 @@
 --     jvhost run [--cells N] [--words N] [--output N] [--quantum N] [--rounds N] [--stdin K] [--raw K] [--json] [--progress] [--time]
 --         FOLDER...
 --     jvhost check [--json] FILE...
---     jvhost explain [--json] FILE...
+--     jvhost explain [--json] [--links] FILE...
 use Rattle.std.specs.Prelude.{ℕ, true, List, Some, codes, pos}
 use Rattle.clap.specs.Lexer.{usize_max}
 use Rattle.clap.specs.Walk.{Rule}
@@ -54,6 +54,10 @@ with_guest name line = with_rule line (number_option name 1 64)
 abbrev pub with_form : App → App
 with_form line = with_rule line (flag (codes "json"))
 
+-- with whether references that don't resolve are told
+abbrev pub with_links : App → App
+with_links line = with_rule line (flag (codes "links"))
+
 -- with which guest is fed, which one's output is written as it is, and whether the report is JSON
 abbrev pub with_streams : App → App
 with_streams line = with_form (with_guest (codes "raw") (with_guest (codes "stdin") line))
@@ -70,7 +74,7 @@ abbrev pub check_line : App
 check_line = with_form (with_rule (new_app (codes "check")) (one_or_more (codes "file")))
 
 abbrev pub explain_line : App
-explain_line = with_form (with_rule (new_app (codes "explain")) (one_or_more (codes "file")))
+explain_line = with_links (with_form (with_rule (new_app (codes "explain")) (one_or_more (codes "file"))))
 
 -- one of the three commands has to be there; `--help` and `--version` are answered
 abbrev pub command_line : App

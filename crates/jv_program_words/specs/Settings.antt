@@ -11,6 +11,7 @@ use Rattle.clap.specs.declared.error.Error.{Error}
 use Rattle.clap.specs.Walk.{Row, all_of, one_of}
 use Rattle.clap.specs.Simple.{subcommand_of}
 use Rattle.jv_program_words.specs.CommandLine.{command_line, most_of_32_bits}
+use Rattle.jv_program_words.specs.declared.asked.ExplainOptions.{ExplainOptions}
 use Rattle.jv_program_words.specs.declared.asked.RunOptions.{RunOptions}
 use Rattle.jv_program_words.specs.declared.asked.Settings.{Settings}
 use Rattle.jv_program_words.specs.declared.asked.Settings.TheVariants as settings
@@ -91,13 +92,17 @@ options_in rows =
       time = is_flag_in rows (codes "time");
     })
 
+-- whether the report is JSON, and whether references that don't resolve are told
+abbrev pub explain_options_in : List Row → ExplainOptions
+explain_options_in rows = record { json = is_flag_in rows (codes "json"); links = is_flag_in rows (codes "links") }
+
 -- ---- what is asked for
 
--- to run the guests in folders, to check files, or to explain the verdicts on them, with a report in JSON or not
+-- to run the guests in folders, to check files, with a report in JSON or not, or to explain the verdicts on them
 pub data Asked : Type 0 where
   run : RunOptions → (folders : List (List ℕ)) → Asked
   check : (json : Bool) → (files : List (List ℕ)) → Asked
-  explain : (json : Bool) → (files : List (List ℕ)) → Asked
+  explain : ExplainOptions → (files : List (List ℕ)) → Asked
 
 -- what a command asks for, by its name and the rows of its arguments
 abbrev pub asked_by : List ℕ × List Row → Option Asked
@@ -105,7 +110,7 @@ asked_by (name, rows) =
     if bytes_eq name (codes "run")
     then option_and_then (λ options. option_map (run options) (all_of (codes "folder") rows)) (options_in rows)
     else if bytes_eq name (codes "check") then option_map (check (is_flag_in rows (codes "json"))) (all_of (codes "file") rows)
-    else if bytes_eq name (codes "explain") then option_map (explain (is_flag_in rows (codes "json"))) (all_of (codes "file") rows)
+    else if bytes_eq name (codes "explain") then option_map (explain (explain_options_in rows)) (all_of (codes "file") rows)
     else None
 
 -- What words that the library takes ask for, of which the first is the program's own name; none where they name no command with its names
@@ -125,7 +130,7 @@ AreNames texts names = option_map texts_of names ≡ texts
 abbrev pub asked_of : Settings → Asked
 asked_of (settings.Run options folders) = run options (texts_of folders)
 asked_of (settings.Check json files) = check json (texts_of files)
-asked_of (settings.Explain json files) = explain json (texts_of files)
+asked_of (settings.Explain options files) = explain options (texts_of files)
 
 -- the settings are what is asked for
 abbrev pub IsAskedBy : Option Asked → Option Settings → Type 0

@@ -28,6 +28,15 @@ pub struct RunOptions {
     pub time: bool,
 }
 
+/// How verdicts are explained.
+#[derive(Clone, Copy)]
+pub struct ExplainOptions {
+    /// Whether the report is JSON.
+    pub json: bool,
+    /// Whether the references of an accepted class that don't resolve are told.
+    pub links: bool,
+}
+
 /// What the words of the command line ask for.
 #[derive(Drop)]
 pub enum Settings<'a> {
@@ -35,8 +44,8 @@ pub enum Settings<'a> {
     Run(RunOptions, Vec<&'a str>),
     /// To check files, with a report in JSON or not.
     Check(bool, Vec<&'a str>),
-    /// To explain the verdicts on files, with a report in JSON or not.
-    Explain(bool, Vec<&'a str>),
+    /// To explain the verdicts on files, with these options.
+    Explain(ExplainOptions, Vec<&'a str>),
 }
 
 /// What holds where no option is used: 65,536 cells, words and bytes of output, and 10,000 rounds of turns of 1,000 steps.

@@ -159,13 +159,18 @@ fn check_line<'a>(alloc: Global) -> Result<Command<'a>, AllocError>
         .args(Vec::from_array(alloc, args)?)
 }
 
-/// The command `explain FILE...`.
+/// The command `explain FILE...`, with its options.
 fn explain_line<'a>(alloc: Global) -> Result<Command<'a>, AllocError>
     ensures { IfOk result (λ line. app_of line ≡ explain_line) }
 {
     let about = "Checks class files as `check` does, and says more of each that isn't accepted";
     let files = words(alloc, "file", "FILE", "A class file of the guest");
-    let args = [files, json(alloc)];
+    let links = flag(
+        alloc,
+        "links",
+        "Tells each reference of an accepted class that won't resolve",
+    );
+    let args = [files, json(alloc), links];
     Command::new(alloc, "explain")
         .about(about)
         .args(Vec::from_array(alloc, args)?)

@@ -7,6 +7,6 @@ mod command_line;
 mod law;
 mod reading;
 
-pub use asked::{RunOptions, Settings, usual_options};
+pub use asked::{ExplainOptions, RunOptions, Settings, usual_options};
 pub use law::word_rows;
 pub use reading::{not_text, settings};

@@ -1,9 +1,9 @@
 //! What the words of the command line ask for.
 ghost use Rattle.std.specs.Prelude.{◌≡◌, IfErr, IfOk, map, string_bytes};
 ghost use Rattle.clap.specs.Words.{all_of, found_of, kind_of, one_of, rows_of};
-ghost use Rattle.jv_program_words.specs.Settings.{AreNames, IsAskedBy, IsAskedIn, AreRefused, asked_by, guest_in, is_set, number_or, options_in};
+ghost use Rattle.jv_program_words.specs.Settings.{AreNames, IsAskedBy, IsAskedIn, AreRefused, asked_by, explain_options_in, guest_in, is_set, number_or, options_in};
 
-use crate::asked::{RunOptions, Settings, usual_options};
+use crate::asked::{ExplainOptions, RunOptions, Settings, usual_options};
 use crate::command_line::command_line;
 use clap::error::ErrorKind;
 use clap::{ArgMatches, Error};
@@ -82,6 +82,16 @@ fn options_in(found: &ArgMatches<'_>) -> Option<RunOptions>
     })
 }
 
+/// What the options of `explain` say.
+fn explain_options_in(found: &ArgMatches<'_>) -> ExplainOptions
+    ensures { result ≡ explain_options_in (rows_of (found_of found.now)) }
+{
+    ExplainOptions {
+        json: is_set(found, "json"),
+        links: is_set(found, "links"),
+    }
+}
+
 /// The words of an argument that takes several, where it is used.
 fn names_in<'a>(
     alloc: Global,
@@ -113,8 +123,8 @@ fn asked_by<'a>(
         let json = is_set(found, "json");
         Ok(names_in(alloc, found, "file")?.map(|files| Settings::Check(json, files)))
     } else if command == "explain" {
-        let json = is_set(found, "json");
-        Ok(names_in(alloc, found, "file")?.map(|files| Settings::Explain(json, files)))
+        let options = explain_options_in(found);
+        Ok(names_in(alloc, found, "file")?.map(|files| Settings::Explain(options, files)))
     } else {
         Ok(None)
     }

@@ -1,17 +1,24 @@
 -- What is said of the first files of a guest.
-use Rattle.std.specs.Prelude.{◌≡◌, ℕ, List, Some, length, slice_get}
+use Rattle.std.specs.Prelude.{◌≡◌, ℕ, Bool, List, [], Some, length, slice_get, take}
 use Rattle.jv_meaning_world.specs.FileContent.{FileContent, AreContents}
+use Rattle.jv_meaning_world.specs.Library.{with_library}
+use Rattle.jv_meaning_world.specs.World.{world_of}
 use Rattle.jv_meaning_typing.specs.declared.verdict.Verdict.{Verdict}
-use Rattle.jv_verify.specs.Files.{AreVerdicts}
-use Rattle.jv_explain.specs.Explained.{IsExplanation}
-use Rattle.jv_program_explain.specs.Explain.{AreExplained}
+use Rattle.jv_verify.specs.Files.{AreVerified, Verified}
+use Rattle.jv_verify.specs.Inside.Numbered.{number_behind}
+use Rattle.jv_program_explain.specs.Explain.{AreExplained, IsSaid}
 
-pub record AreExplainedBelow (contents : List FileContent) (verdicts : List Verdict) (below : ℕ) (said : List (List ℕ)) : Type 0 where
+-- and the number of the class of the next one
+pub record AreExplainedBelow (links : Bool) (contents : List FileContent) (verdicts : List Verdict) (below number : ℕ)
+    (said : List (List ℕ)) : Type 0 where
+  pub number_is : number ≡ number_behind (with_library []) (take below contents)
   pub count : length said ≡ below
   pub each : (place : ℕ) (content : FileContent) (verdict : Verdict) (text : List ℕ) → slice_get contents place ≡ Some content
-      → slice_get verdicts place ≡ Some verdict → slice_get said place ≡ Some text → IsExplanation content verdict text
+      → slice_get verdicts place ≡ Some verdict → slice_get said place ≡ Some text
+      → IsSaid links (world_of (with_library []) contents) content verdict text
 
--- of files with these verdicts, whatever they hold
-abbrev pub AreSaid : (files : List (List ℕ)) → List Verdict → (said : List (List ℕ)) → Type 0
-AreSaid files verdicts said =
-    (contents : List FileContent) → AreContents files contents → AreVerdicts contents verdicts → AreExplained contents verdicts said
+-- of files of which this is found, whatever they hold
+abbrev pub AreSaid : (links : Bool) → (files : List (List ℕ)) → Verified → (said : List (List ℕ)) → Type 0
+AreSaid links files verified said =
+    (contents : List FileContent) → AreContents files contents → AreVerified contents verified
+    → AreExplained links contents verified.verdicts said

@@ -27,13 +27,15 @@ pub record WordRows : Type 0 where
   pub files : asked_in (words (codes "check" ∷ codes "A.class" ∷ codes "B.class" ∷ []))
       ≡ Some (check false (codes "A.class" ∷ codes "B.class" ∷ []))
   pub explained : asked_in (words (codes "explain" ∷ codes "A.class" ∷ codes "B.class" ∷ []))
-      ≡ Some (explain false (codes "A.class" ∷ codes "B.class" ∷ []))
+      ≡ Some (explain (record { json = false; links = false }) (codes "A.class" ∷ codes "B.class" ∷ []))
   pub lines : asked_in (words (codes "run" ∷ codes "a" ∷ codes "--json" ∷ []))
       ≡ Some (run (record usual_options { json = true }) (codes "a" ∷ []))
   pub checked_lines : asked_in (words (codes "check" ∷ codes "--json" ∷ codes "A.class" ∷ []))
       ≡ Some (check true (codes "A.class" ∷ []))
   pub explained_lines : asked_in (words (codes "explain" ∷ codes "A.class" ∷ codes "--json" ∷ []))
-      ≡ Some (explain true (codes "A.class" ∷ []))
+      ≡ Some (explain (record { json = true; links = false }) (codes "A.class" ∷ []))
+  pub linked : asked_in (words (codes "explain" ∷ codes "--links" ∷ codes "A.class" ∷ []))
+      ≡ Some (explain (record { json = false; links = true }) (codes "A.class" ∷ []))
   pub nothing : asked_in (words []) ≡ None
   pub no_command : fault_of command_line (words []) ≡ kinds.MissingSubcommand ∷ []
   pub no_folder : fault_of command_line (words (codes "run" ∷ [])) ≡ kinds.MissingRequiredArgument ∷ []

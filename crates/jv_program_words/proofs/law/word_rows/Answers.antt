@@ -18,6 +18,7 @@ rows = record {
   lines = refl;
   checked_lines = refl;
   explained_lines = refl;
+  linked = refl;
   nothing = refl;
   no_command = refl;
   no_folder = refl;

@@ -2,11 +2,11 @@ use Rattle.std.proofs.Common.{List, map}
 use Rattle.std.specs.Prelude.{string_bytes}
 use Rattle.jv_limits.specs.Bytes.{bytes_of}
 use Rattle.jv_meaning_world.specs.FileContent.{FileContent, AreContents}
-use Rattle.jv_verify.specs.Files.{AreVerdicts}
+use Rattle.jv_verify.specs.Files.{AreVerified}
 use Rattle.jv_program_explain.specs.Inside.Below.{AreExplainedBelow}
-use Rattle.jv_program_explain.proofs.explaining.said_of.Given as goal
+use Rattle.jv_program_explain.proofs.said.said_of.Given as goal
 
 abbrev pub invariant-loop-place : goal.invariant-loop-place
 invariant-loop-place l =
-    (contents : List FileContent) → AreContents (map bytes_of l.files) contents → AreVerdicts contents l.verdicts
-    → AreExplainedBelow contents l.verdicts l.place (map string_bytes l.said.items)
+    (contents : List FileContent) → AreContents (map bytes_of l.files) contents → AreVerified contents l.verified
+    → AreExplainedBelow l.links contents l.verified.verdicts l.place l.number (map string_bytes l.said.items)

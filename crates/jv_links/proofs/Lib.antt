@@ -1,0 +1,4 @@
+pub mod Answered
+pub mod Blocked
+pub mod Typings
+pub mod Walking

@@ -1,0 +1,4 @@
+pub mod Inside
+pub mod References
+pub mod Text
+pub mod Unresolved

@@ -1,0 +1,109 @@
+-- The class of a file stands at its number.
+use Rattle.std.proofs.Common.{◌≡◌, ℕ, suc, ◌<◌, Bool, true, false, List, [], length, take, Option, Some, None, refl, sym, ap, subst, ◌∙◌}
+use Rattle.std.specs.Prelude.{IsTrue, slice_get}
+use Rattle.std.proofs.lemmas.Option.{slice_get_within}
+use Rattle.jv_class.specs.Class.{Class}
+use Rattle.jv_meaning_world.specs.FileContent.{FileContent}
+use Rattle.jv_meaning_world.specs.declared.content.Content.TheVariants.{OtherVersion, NoClassFile, MoreThanProfile, Holds}
+use Rattle.jv_meaning_world.specs.declared.verdict.LoadVerdict.{LoadVerdict}
+use Rattle.jv_meaning_world.specs.Library.{with_library}
+use Rattle.jv_meaning_world.specs.World.{Loaded, World, loaded, world_of}
+use Rattle.jv_meaning_world.specs.Verdicts.{load_verdict}
+use Rattle.jv_meaning_typing.specs.declared.verdict.Verdict.{Verdict}
+use Rattle.jv_meaning_typing.specs.declared.verdict.Verdict.TheVariants.{Accepted, Refused, Verify}
+use Rattle.jv_meaning_typing.specs.Judgement.{AreTyped, IsVerdictBehind, IsVerdictOfContent}
+use Rattle.jv_verify.specs.Files.{AreVerdicts}
+use Rattle.jv_verify.specs.Inside.Numbered.{joins, next_number, number_behind}
+use Rattle.jv_verify.proofs.Numbered.{next_behind, stands}
+use Rattle.jv_program_explain.specs.Inside.Numbered.{IsTypedAt, StandsAt, tells_links, why_of}
+
+-- ---- what a verdict says of what was wrong before
+
+behind : (world : World) (l : Loaded) (why : Option LoadVerdict) (v : Verdict) → IsVerdictBehind world l why v → why_of v ≡ why
+behind world l (Some w) v h = ap why_of h
+behind world l None (Refused w) h = absurd h
+behind world l None (Verify f) h = refl
+behind world l None Accepted h = refl
+
+known_why : (world : World) (why : Option LoadVerdict) (f : FileContent) (v : Verdict) → IsVerdictOfContent world why (Some f) v → why_of v ≡ why
+known_why world why (Holds class) v h = behind world (loaded false class) why v h
+known_why world (Some w) OtherVersion v h = ap why_of h
+known_why world (Some w) NoClassFile v h = ap why_of h
+known_why world (Some w) MoreThanProfile v h = ap why_of h
+known_why world None OtherVersion v h = absurd h
+known_why world None NoClassFile v h = absurd h
+known_why world None MoreThanProfile v h = absurd h
+
+accepted_by : (links : Bool) (v : Verdict) → IsTrue (tells_links links v) → v ≡ Accepted
+accepted_by true Accepted on = refl
+accepted_by true (Refused w) on = absurd cc
+accepted_by true (Verify f) on = absurd cc
+accepted_by false Accepted on = absurd cc
+accepted_by false (Refused w) on = absurd cc
+accepted_by false (Verify f) on = absurd cc
+
+holds_one : (one other : Class) → Holds one ≡ Holds other → one ≡ other
+holds_one one other e = cc
+
+-- ---- the file at a place
+
+module _ (contents : List FileContent) (verdicts : List Verdict) (right : AreVerdicts contents verdicts) (k : ℕ) (f : FileContent) (v : Verdict)
+    (at : slice_get contents k ≡ Some f) (judged : slice_get verdicts k ≡ Some v) where
+  abbrev world : World
+  world = world_of (with_library []) contents
+
+  abbrev number : ℕ
+  number = number_behind (with_library []) (take k contents)
+
+  pub of_file : IsVerdictOfContent world (load_verdict (with_library []) contents k) (Some f) v
+  of_file = subst (λ (o : Option FileContent). IsVerdictOfContent world (load_verdict (with_library []) contents k) o v) at (right.verdict k v judged)
+
+  why_is : why_of v ≡ load_verdict (with_library []) contents k
+  why_is = known_why world (load_verdict (with_library []) contents k) f v of_file
+
+  stands_there : IsTrue (joins (why_of v)) → (class : Class) × (f ≡ Holds class) × (slice_get world number ≡ Some (loaded false class))
+  stands_there on = stands (with_library []) contents k f at (why_of v) why_is on
+
+  pub next_is : number_behind (with_library []) (take (suc k) contents) ≡ next_number number (why_of v)
+  next_is = next_behind (with_library []) contents k f at (why_of v) why_is
+
+  pub is_within : IsTrue (joins (why_of v)) → number < length world
+  is_within on =
+      let found = stands_there on in
+      slice_get_within world number (loaded false found.0) found.2
+
+  module _ (links : Bool) (on : IsTrue (tells_links links v)) where
+    is_accepted : v ≡ Accepted
+    is_accepted = accepted_by links v on
+
+    found : (class : Class) × (f ≡ Holds class) × (slice_get world number ≡ Some (loaded false class))
+    found = stands_there (ap (λ (x : Verdict). joins (why_of x)) is_accepted)
+
+    none_wrong : load_verdict (with_library []) contents k ≡ None
+    none_wrong = sym why_is ∙ ap why_of is_accepted
+
+    are_typed : AreTyped world (loaded false found.0) found.0.methods
+    are_typed =
+        subst (λ (w : Option LoadVerdict). IsVerdictBehind world (loaded false found.0) w Accepted) none_wrong
+        (subst (λ (g : FileContent). IsVerdictOfContent world (load_verdict (with_library []) contents k) (Some g) Accepted) found.1
+        (subst (λ (x : Verdict). IsVerdictOfContent world (load_verdict (with_library []) contents k) (Some f) x) is_accepted of_file))
+
+    pub typed_there : IsTypedAt world number
+    typed_there = record {
+      class = slice_get_within world number (loaded false found.0) found.2;
+      guest = λ l here. by_class l here;
+      typed = λ l here. subst (λ (x : Loaded). AreTyped world x x.class.methods) (same l here) are_typed;
+    }
+      where
+        same : (l : Loaded) → slice_get world number ≡ Some l → loaded false found.0 ≡ l
+        same l here =
+            let both : Some (loaded false found.0) ≡ Some l = sym found.2 ∙ here in
+            cc
+
+        by_class : (l : Loaded) → slice_get world number ≡ Some l → l.by_system ≡ false
+        by_class l here = ap (λ (x : Loaded). x.by_system) (sym (same l here))
+
+    pub class_there : StandsAt world number f
+    class_there = λ class e.
+        let one : found.0 ≡ class = holds_one found.0 class (sym found.1 ∙ e) in
+        found.2 ∙ ap (λ (c : Class). Some (loaded false c)) one

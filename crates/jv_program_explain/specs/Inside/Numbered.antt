@@ -1,0 +1,31 @@
+-- The class of a file by its number.
+use Rattle.std.specs.Prelude.{◌≡◌, ◌<◌, ℕ, Bool, true, false, length, Option, Some, None, slice_get}
+use Rattle.jv_class.specs.Class.{Class}
+use Rattle.jv_meaning_world.specs.FileContent.{FileContent}
+use Rattle.jv_meaning_world.specs.declared.content.Content.TheVariants.{Holds}
+use Rattle.jv_meaning_world.specs.declared.verdict.LoadVerdict.{LoadVerdict}
+use Rattle.jv_meaning_world.specs.Numbers.{HoldsAtNumber}
+use Rattle.jv_meaning_world.specs.World.{World, loaded}
+use Rattle.jv_meaning_typing.specs.declared.verdict.Verdict.{Verdict}
+use Rattle.jv_meaning_typing.specs.declared.verdict.Verdict.TheVariants as verdicts
+use Rattle.jv_meaning_typing.specs.Judgement.{AreTyped}
+
+-- what a verdict says was wrong before methods were looked at
+abbrev pub why_of : Verdict → Option LoadVerdict
+why_of (verdicts.Refused why) = Some why
+why_of _ = None
+
+-- with links the references of an accepted class are told
+abbrev pub tells_links : (links : Bool) → Verdict → Bool
+tells_links true verdicts.Accepted = true
+tells_links _ _ = false
+
+-- the class with a number is a guest's, and its methods are typed
+pub record IsTypedAt (world : World) (number : ℕ) : Type 0 where
+  pub class : number < length world
+  pub guest : HoldsAtNumber world number (λ l. l.by_system ≡ false)
+  pub typed : HoldsAtNumber world number (λ l. AreTyped world l l.class.methods)
+
+-- it is the one that a file holds
+abbrev pub StandsAt : World → ℕ → FileContent → Type 0
+StandsAt world number content = (class : Class) → content ≡ Holds class → slice_get world number ≡ Some (loaded false class)

@@ -1,0 +1,78 @@
+//! What is said of the files of a guest.
+
+ghost use Rattle.std.specs.Prelude.{◌≡◌, IfOk, IsTrue, Option, Some, map, string_bytes};
+ghost use Rattle.jv_limits.specs.Bytes.{bytes_of};
+ghost use Rattle.jv_meaning_typing.specs.Judgement.{IsVerdictOfContent};
+ghost use Rattle.jv_meaning_world.specs.FileContent.{FileContent, IsContent};
+ghost use Rattle.jv_meaning_world.specs.declared.verdict.LoadVerdict.{LoadVerdict};
+ghost use Rattle.jv_program_explain.specs.Explain.{IsSaid};
+ghost use Rattle.jv_program_explain.specs.Inside.Below.{AreSaid};
+ghost use Rattle.jv_program_explain.specs.Inside.Numbered.{IsTypedAt, StandsAt, tells_links};
+ghost use Rattle.jv_verify.specs.Files.{AreFilesOf};
+
+use crate::numbers::{SYSTEM_COUNT, next_number};
+use jv_explain::explain_file;
+use jv_links::explain_links;
+use jv_loader::{Classes, OutOfMemory};
+use jv_meaning_typing::Verdict;
+use jv_program_base::{bytes_at, verdict_at};
+use jv_verify::Verified;
+use std::alloc::{AllocError, Global};
+
+/// Whether the references of the class of a file with this verdict are told.
+fn tells_links(links: bool, verdict: Verdict) -> bool
+    ensures { result ≡ tells_links links verdict }
+{
+    match verdict {
+        Verdict::Accepted => links,
+        _ => false,
+    }
+}
+
+/// What is said of a file with these bytes and this verdict, whose class has a number where its references are told.
+fn said_at(
+    alloc: Global,
+    links: bool,
+    classes: &Classes<'_>,
+    number: usize,
+    bytes: &[u8],
+    verdict: Verdict,
+) -> Result<String, OutOfMemory>
+    requires { IsTrue (tells_links links verdict) → IsTypedAt classes.now.world number }
+    ensures { IfOk result (λ text. (why : Option LoadVerdict) (content : FileContent) → IsContent bytes.now content
+        → IsVerdictOfContent classes.now.world why (Some content) verdict
+        → (IsTrue (tells_links links verdict) → StandsAt classes.now.world number content)
+        → IsSaid links classes.now.world content verdict (string_bytes text)) }
+{
+    if tells_links(links, verdict) {
+        Ok(explain_links(alloc, classes, number)?)
+    } else {
+        explain_file(alloc, bytes, verdict)
+    }
+}
+
+/// What is said of the files of a guest, of which this is found.
+pub(crate) fn said_of(
+    alloc: Global,
+    links: bool,
+    verified: &Verified<'_>,
+    files: &[&[u8]],
+) -> Result<Vec<String>, AllocError>
+    requires { AreFilesOf (map bytes_of files.now) verified.now }
+    ensures { IfOk result (λ said. AreSaid links (map bytes_of files.now) verified.now (map string_bytes said.items)) }
+{
+    let classes = verified.classes();
+    let verdicts = verified.verdicts();
+    let mut said = Vec::new(alloc);
+    let mut number = SYSTEM_COUNT;
+    for place in 0..files.len().min(verdicts.len()) {
+        let bytes = bytes_at(files, place);
+        let verdict = verdict_at(verdicts, place);
+        let Ok(text) = said_at(alloc, links, classes, number, bytes, verdict) else {
+            return Err(AllocError);
+        };
+        said.push(text).map_err(AllocError::from)?;
+        number = next_number(classes, number, verdict);
+    }
+    Ok(said)
+}
