@@ -3,6 +3,7 @@ pub mod Faultless
 pub mod Feeding
 pub mod Holdings
 pub mod MayBegin
+pub mod NoLibrary
 pub mod Places
 pub mod Rounding
 pub mod RunsNow

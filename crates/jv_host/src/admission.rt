@@ -75,11 +75,18 @@ fn has_place<S: Store>(store: &S, words: u32) -> bool
     store.total() + u64::from(words) <= MOST_WORDS
 }
 
+/// Whether there is no library.
+fn is_alone(system: &SystemFiles) -> bool
+    ensures { IsTrue result → system.now ≡ [] }
+{
+    system.library_count() == 0
+}
+
 /// Judges the files of a guest, and begins it.
 ///
 /// # Errors
 ///
-/// Where the host had no memory for it; nothing has then changed.
+/// Where the host had no memory for it, and where its system has a library, which no host runs yet; nothing has then changed.
 pub(crate) fn begin<'a, S: Store>(
     alloc: Global,
     state: RandomState,
@@ -98,9 +105,13 @@ pub(crate) fn begin<'a, S: Store>(
     ensures refused { OnErr result (S.content store.new ≡ S.content store.old) }
     ensures refused_room { OnErr result (S.room_left store.new ≡ S.room_left store.old) }
 {
+    if !is_alone(system) {
+        return Err(OutOfMemory);
+    }
     let Ok(judged) = verify_files(alloc, state, system, files.files) else {
         return Err(OutOfMemory);
     };
+    judged.system_stands();
     if !has_place(store, budget.cells) {
         return Err(OutOfMemory);
     }

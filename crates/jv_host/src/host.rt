@@ -15,8 +15,9 @@ use crate::limits::first_refusal;
 use jv_interp::{Budget, Observation};
 use jv_limits::{AdmitFault, FeedFault, NoGuest, TurnFault};
 use jv_loader::SystemFiles;
+use jv_meaning_machine::one_judged;
 use jv_meaning_typing::Verdict;
-use jv_sound::{never_faults, no_library_stands};
+use jv_sound::never_faults;
 use jv_store::Store;
 use std::alloc::Global;
 use std::hash::RandomState;
@@ -188,7 +189,7 @@ impl<'a, S: Store> Host<'a, S> {
         ensures { NoGuestFaults self.now }
     {
         never_faults();
-        no_library_stands();
+        one_judged();
         let _known = &self.guests;
     }
 

@@ -4,7 +4,7 @@ use Rattle.std.specs.Prelude.{⊤, slice_get}
 use Rattle.std.specs.List.{cons_option, filter_map, flat_map, list_any}
 use Rattle.std.specs.Option.{option_to_list}
 use Rattle.std.specs.Str.{bytes_eq}
-use Rattle.std.proofs.lemmas.List.{map-append}
+use Rattle.std.proofs.lemmas.List.{length-map, length-replicate, map-append}
 use Rattle.std.proofs.lemmas.List.Concat.{flat_map-append, flat_map-cons}
 use Rattle.std.proofs.lemmas.Slice.Eq.{bytes_eq-Decides}
 use Rattle.jv_class.specs.Class.{Class}
@@ -13,7 +13,6 @@ use Rattle.jv_meaning_world.specs.declared.content.Content.TheVariants.{OtherVer
 use Rattle.jv_meaning_world.specs.declared.verdict.LoadVerdict.{LoadVerdict}
 use Rattle.jv_meaning_world.specs.declared.verdict.LoadVerdict.TheVariants.{Version, Format, Unsupported, Reserved, Duplicate, Circular, NoSuper, WrongKind, NoAccess, FinalBroken}
 use Rattle.jv_meaning_world.specs.Library.{with_library}
-use Rattle.jv_meaning_world.specs.System.Classes.{system_classes}
 use Rattle.jv_meaning_world.specs.World.{HostClasses, Loaded, World, loaded, is_reserved, has_class, with_class_of, joined_all, classes_in, world_of}
 use Rattle.jv_meaning_world.specs.Above.{is_circular, superclasses}
 use Rattle.jv_meaning_world.specs.Verdicts.{verdict_of_class, verdict_behind, verdict_at, each_super, is_loadable, have_right_kind, can_name_supers, has_final_super, breaks_final}
@@ -23,7 +22,6 @@ use Rattle.jv_meaning_typing.specs.declared.verdict.Verdict.TheVariants as verdi
 use Rattle.jv_meaning_typing.specs.Judgement.{IsVerdictOfMethods, IsVerdictBehind, IsVerdictOfContent, IsVerdictOfFile}
 use Rattle.jv_meaning_machine.specs.State.{is_class_accepted}
 use Rattle.jv_meaning_machine.specs.Alone.{Judged, IsJudged, accepted_in, accepted_names}
-use Rattle.jv_sound.proofs.NoLibrary.{accepted_without_library, verdicts_without_library, world_without_library}
 use Rattle.jv_interp.specs.VerifiedClasses.{class_accepted, accepted_by, TellsEach}
 
 -- ---- the classes of files, each with whether it was accepted
@@ -369,37 +367,112 @@ guests_told all unlike n l e =
     ∙ ap Some (sym (flag_is all unlike n there.row there.at)
     ∙ ap (λ (l : Loaded). is_accepted (flat_map names_in all) l) there.own)
 
-module _ (contents : List FileContent) (all : List Verdict) (count : length all ≡ length contents)
-    (each : (place : ℕ) (v : Verdict) → slice_get all place ≡ Some v → IsVerdictOfFile (with_library []) contents place v) where
-  right : AreRight (with_library []) (world_of (with_library []) contents) [] contents all
-  right = are_right (with_library []) contents [] contents all refl count (λ place v e. subst (λ (n : ℕ). IsVerdictOfFile (with_library []) contents n v) (sym (none_before place)) (each place v e))
+-- ---- the classes in front of a guest's, which all count as accepted
+
+front_rows : List Class → List Row
+front_rows [] = []
+front_rows (c ∷ front) = (c, true) ∷ front_rows front
+
+front_classes : (front : List Class) → map class_in (front_rows front) ≡ front
+unfolding front_rows
+front_classes [] = refl
+front_classes (c ∷ front) = ap (λ (cs : List Class). c ∷ cs) (front_classes front)
+
+front_flags : (front : List Class) → map flag_in (front_rows front) ≡ replicate (length front) true
+unfolding front_rows
+front_flags [] = refl
+front_flags (c ∷ front) = ap (λ (bs : List Bool). true ∷ bs) (front_flags front)
+
+front_names : (front : List Class) → flat_map names_in (front_rows front) ≡ map (λ c. c.name) front
+unfolding front_rows
+front_names [] = refl
+front_names (c ∷ front) = flat_map-cons names_in (c, true) (front_rows front) ∙ ap (λ (ns : List (List ℕ)). c.name ∷ ns) (front_names front)
+
+both_replicated : (a b : ℕ) (bs : List Bool) → replicate (a + b) true ++ bs ≡ replicate a true ++ (replicate b true ++ bs)
+both_replicated a b bs =
+    ap (λ (xs : List Bool). xs ++ bs) (replicated a) ∙ append_assoc (replicate a true) (replicate b true) bs
+  where
+    replicated : (n : ℕ) → replicate (n + b) true ≡ replicate n true ++ replicate b true
+    replicated zero = let none : zero + b ≡ b = omega arith in ap (λ (k : ℕ). replicate k true) none
+    replicated (suc n) =
+        let more : suc n + b ≡ suc (n + b) = omega arith in
+        ap (λ (k : ℕ). replicate k true) more ∙ ap (λ (bs : List Bool). true ∷ bs) (replicated n)
+
+module _ (given : List Class) (contents : List FileContent) (all : List Verdict) (count : length all ≡ length contents)
+    (each : (place : ℕ) (v : Verdict) → slice_get all place ≡ Some v → IsVerdictOfFile (with_library given) contents place v) where
+  abbrev host : HostClasses
+  host = with_library given
+
+  abbrev table : List Row
+  table = front_rows host.front ++ rows contents all
+
+  right : AreRight host (world_of host contents) [] contents all
+  right =
+      are_right host contents [] contents all refl count
+      (λ place v e. subst (λ (n : ℕ). IsVerdictOfFile host contents n v) (sym (none_before place)) (each place v e))
     where
       none_before : (place : ℕ) → length {A = FileContent} [] + place ≡ place
       none_before place = omega arith
 
-  own_classes : classes_in (with_library []) contents ≡ map class_in (rows contents all)
-  own_classes = classes_are (with_library []) (world_of (with_library []) contents) [] contents all right
+  own_classes : classes_in host contents ≡ map class_in table
+  own_classes =
+      classes_are host (world_of host contents) [] contents all right
+      ∙ ap (λ (cs : List Class). cs ++ map class_in (rows contents all)) (sym (front_classes host.front))
+      ∙ sym (map-append class_in (front_rows host.front) (rows contents all))
 
-  pub accepted_told : IsNumbered (world_of (with_library []) contents) → TellsEach (world_of (with_library []) contents) (accepted_by all) (is_accepted (accepted_names contents all))
+  own_flags : map flag_in table ≡ replicate (length host.front) true ++ filter_map class_accepted all
+  own_flags =
+      map-append flag_in (front_rows host.front) (rows contents all)
+      ∙ ap (λ (bs : List Bool). bs ++ map flag_in (rows contents all)) (front_flags host.front)
+      ∙ ap (λ (bs : List Bool). replicate (length host.front) true ++ bs) (sym (flags_are host (world_of host contents) [] contents all right))
+
+  own_names : flat_map names_in table ≡ map (λ c. c.name) host.front ++ accepted_names contents all
+  own_names =
+      flat_map-append names_in (front_rows host.front) (rows contents all)
+      ∙ ap (λ (ns : List (List ℕ)). ns ++ flat_map names_in (rows contents all)) (front_names host.front)
+      ∙ ap (λ (ns : List (List ℕ)). map (λ c. c.name) host.front ++ ns) (sym (names_are contents all))
+
+  -- there are as many classes as flags
+  pub class_count : length (world_of host contents) ≡ length host.system + length host.front + length (filter_map class_accepted all)
+  class_count =
+      let both = length-append (map (loaded true) host.system) (map (loaded false) (classes_in host contents)) in
+      let first = length-map host.system (loaded true) in
+      let behind = length-map (classes_in host contents) (loaded false) in
+      let own = ap (λ (cs : List Class). length cs) own_classes in
+      let rows_are = length-map table class_in in
+      let flags_are = length-map table flag_in in
+      let flags = ap (λ (bs : List Bool). length bs) own_flags in
+      let parts = length-append (replicate (length host.front) true) (filter_map class_accepted all) in
+      let front = length-replicate {A = Bool} (length host.front) true in
+      omega (arith, both, first, behind, own, rows_are, flags_are, flags, parts, front)
+
+  pub accepted_told :
+      IsNumbered (world_of host contents)
+      → TellsEach (world_of host contents) (accepted_by (length host.system + length host.front) all)
+      (is_accepted (map (λ c. c.name) host.front ++ accepted_names contents all))
   accepted_told numbered =
-      let table = rows contents all in
-      let unlike = are_unlike system_classes table (subst (λ (cs : List Class). IsNumbered (map (loaded true) system_classes ++ map (loaded false) cs)) own_classes numbered) in
-      let told = each_told system_classes (map (loaded false) (map class_in table)) (map flag_in table) (is_accepted (flat_map names_in table)) (λ c. refl) (guests_told table unlike) in
-      subst (λ (cs : List Class). TellsEach (map (loaded true) system_classes ++ map (loaded false) cs) (accepted_by all) (is_accepted (accepted_names contents all))) (sym own_classes)
-      (subst (λ (bs : List Bool). TellsEach (map (loaded true) system_classes ++ map (loaded false) (map class_in table)) (replicate 33 true ++ bs) (is_accepted (accepted_names contents all)))
-      (sym (flags_are (with_library []) (world_of (with_library []) contents) [] contents all right))
-      (subst (λ (ns : List (List ℕ)). TellsEach (map (loaded true) system_classes ++ map (loaded false) (map class_in table)) (replicate 33 true ++ map flag_in table) (is_accepted ns))
-      (sym (names_are contents all)) told))
+      let unlike = are_unlike host.system table (subst (λ (cs : List Class). IsNumbered (map (loaded true) host.system ++ map (loaded false) cs)) own_classes numbered) in
+      let told = each_told host.system (map (loaded false) (map class_in table)) (map flag_in table) (is_accepted (flat_map names_in table)) (λ c. refl) (guests_told table unlike) in
+      subst (λ (cs : List Class). TellsEach (map (loaded true) host.system ++ map (loaded false) cs) (accepted_by (length host.system + length host.front) all)
+      (is_accepted (map (λ c. c.name) host.front ++ accepted_names contents all))) (sym own_classes)
+      (subst (λ (bs : List Bool). TellsEach (map (loaded true) host.system ++ map (loaded false) (map class_in table)) bs
+      (is_accepted (map (λ c. c.name) host.front ++ accepted_names contents all)))
+      (sym (both_replicated (length host.system) (length host.front) (filter_map class_accepted all)))
+      (subst (λ (bs : List Bool). TellsEach (map (loaded true) host.system ++ map (loaded false) (map class_in table)) (replicate (length host.system) true ++ bs)
+      (is_accepted (map (λ c. c.name) host.front ++ accepted_names contents all))) own_flags
+      (subst (λ (ns : List (List ℕ)). TellsEach (map (loaded true) host.system ++ map (loaded false) (map class_in table))
+      (replicate (length host.system) true ++ map flag_in table) (is_accepted ns)) own_names told)))
 
 pub judged_told :
-    (files : List (List ℕ)) (judged : Judged) → IsJudged [] files judged → IsNumbered judged.program.world
-    → TellsEach judged.program.world (accepted_by judged.verdicts) (is_class_accepted judged.program)
-judged_told files judged is numbered =
-    let world = world_without_library judged [] files refl is in
-    subst (λ (ns : List (List ℕ)). TellsEach judged.program.world (accepted_by judged.verdicts) (is_accepted ns))
-    (sym (accepted_without_library judged [] files refl is))
-    (subst (λ (w : World). TellsEach w (accepted_by judged.verdicts) (is_accepted (accepted_names is.contents judged.verdicts))) (sym world)
-    (accepted_told is.contents judged.verdicts is.count (verdicts_without_library judged [] files refl is) (subst IsNumbered world numbered)))
+    (library files : List (List ℕ)) (judged : Judged) (right : IsJudged library files judged) → IsNumbered judged.program.world
+    → TellsEach judged.program.world
+    (accepted_by (length (with_library right.given).system + length (with_library right.given).front) judged.verdicts) (is_class_accepted judged.program)
+judged_told library files judged is numbered =
+    let host = with_library is.given in
+    let flags = accepted_by (length host.system + length host.front) judged.verdicts in
+    subst (λ (ns : List (List ℕ)). TellsEach judged.program.world flags (is_accepted ns)) (sym is.accepted)
+    (subst (λ (w : World). TellsEach w flags (is_accepted (map (λ c. c.name) host.front ++ accepted_names is.contents judged.verdicts))) (sym is.world)
+    (accepted_told is.given is.contents judged.verdicts is.count is.verdict (subst IsNumbered is.world numbered)))
 
 -- ---- verdict by verdict
 
@@ -419,7 +492,10 @@ found_next {Y = Y} look (y ∷ xs) (suc k) x e = by_look (look y) (found_next lo
     by_look None f = f
     by_look (Some z) f = ap (λ zs. z ∷ zs) f
 
-pub accepted_next : (all : List Verdict) (k : ℕ) (v : Verdict) → slice_get all k ≡ Some v → accepted_by (take (k + 1) all) ≡ accepted_by (take k all) ++ option_to_list (class_accepted v)
-accepted_next all k v e =
+pub accepted_next : (given : ℕ) (all : List Verdict) (k : ℕ) (v : Verdict)
+    → slice_get all k ≡ Some v → accepted_by given (take (k + 1) all) ≡ accepted_by given (take k all) ++ option_to_list (class_accepted v)
+accepted_next given all k v e =
     let more : k + 1 ≡ suc k = omega arith in
-    ap (λ (n : ℕ). accepted_by (take n all)) more ∙ ap (λ (bs : List Bool). replicate 33 true ++ bs) (found_next class_accepted all k v e)
+    ap (λ (n : ℕ). accepted_by given (take n all)) more
+    ∙ ap (λ (bs : List Bool). replicate given true ++ bs) (found_next class_accepted all k v e)
+    ∙ sym (append_assoc (replicate given true) (filter_map class_accepted (take k all)) (option_to_list (class_accepted v)))

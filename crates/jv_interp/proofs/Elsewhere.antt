@@ -50,8 +50,8 @@ pub stands_elsewhere :
     → Grows addresses more before after → GuestStands g b feeds n own guest before → GuestStands g b feeds n own guest after
 stands_elsewhere g b feeds n own addresses more guest before after apart grows h = record {
   judged = h.judged;
-  no_library = h.no_library;
   right = h.right;
+  library_stands = h.library_stands;
   world_is = h.world_is;
   verdicts_are = h.verdicts_are;
   verified_are = h.verified_are;

@@ -42,8 +42,8 @@ input_changed before after same held_is g b feeds later n addresses blocks input
     let read_is = ap (λ (x : Held). x.read) held_is in
     record {
       judged = h.judged;
-      no_library = h.no_library;
       right = h.right;
+      library_stands = h.library_stands;
       world_is = h.world_is ∙ sym (ap (λ (x : Guest). x.judged.world) same);
       verdicts_are = h.verdicts_are ∙ sym (ap (λ (x : Guest). x.judged.verdicts) same);
       verified_are = subst (λ (x : Guest). AreVerified h.judged.program x.verified.items) (sym same) h.verified_are;
@@ -81,7 +81,7 @@ input_changed before after same held_is g b feeds later n addresses blocks input
       linked = subst (λ (x : Guest). Rattle.jv_link_cache.specs.Linked.IsLinked x.judged.world x.linked) (sym same) h.tables.linked;
       methods = subst (λ (x : Guest). Rattle.jv_interp_members.specs.Methods.AreMethods x.judged.world x.methods) (sym same) h.tables.methods;
       texts = subst (λ (x : Guest). Rattle.jv_interp_objects.specs.Texts.AreTexts x.judged.world x.texts) (sym same) h.tables.texts;
-      few = subst (λ (x : Guest). length x.judged.world ≤ 1057) (sym same) h.tables.few;
+      few = subst (λ (x : Guest). length x.judged.world ≤ 2083) (sym same) h.tables.few;
     }
 
 pub fed_stands :

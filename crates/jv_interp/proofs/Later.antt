@@ -33,8 +33,8 @@ went on g b feeds n k addresses before after blocks blocks_after h r same linked
       more = r.reaches.more;
       stands = record {
         judged = h.judged;
-        no_library = h.no_library;
         right = h.right;
+        library_stands = h.library_stands;
         world_is = h.world_is ∙ sym (ap (λ (x : Guest). x.judged.world) same);
         verdicts_are = h.verdicts_are ∙ sym (ap (λ (x : Guest). x.judged.verdicts) same);
         verified_are =
@@ -44,7 +44,7 @@ went on g b feeds n k addresses before after blocks blocks_after h r same linked
           methods =
               subst (λ (x : Guest). Rattle.jv_interp_members.specs.Methods.AreMethods x.judged.world x.methods) (sym same) h.tables.methods;
           texts = subst (λ (x : Guest). Rattle.jv_interp_objects.specs.Texts.AreTexts x.judged.world x.texts) (sym same) h.tables.texts;
-          few = subst (λ (x : Guest). Rattle.std.specs.Prelude.length x.judged.world ≤ 1057) (sym same) h.tables.few;
+          few = subst (λ (x : Guest). Rattle.std.specs.Prelude.length x.judged.world ≤ 2083) (sym same) h.tables.few;
         };
         came = nothing_later n k feeds h.came;
         state = r.t;

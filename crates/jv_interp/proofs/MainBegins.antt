@@ -6,6 +6,7 @@ use Rattle.std.proofs.lemmas.List.{length-replicate, map-append}
 use Rattle.std.proofs.lemmas.List.Concat.{flat_map-cons}
 use Rattle.jv_stackmap.specs.Types.{value_type, width}
 use Rattle.jv_text.specs.Descriptor.{field_slots}
+use Rattle.jv_class.specs.Class.{Class}
 use Rattle.jv_meaning_world.specs.FileContent.{FileContent}
 use Rattle.jv_meaning_world.specs.Library.{with_library}
 use Rattle.jv_meaning_world.specs.World.{Loaded, World, class_named, world_of}
@@ -37,8 +38,18 @@ pub record Known (world : World) (l : Loaded) : Type 0 where
 same_some : (a b : Loaded) → Some a ≡ Some b → a ≡ b
 same_some a b e = cc
 
-known : (contents : List FileContent) → (l : Loaded) × Known (world_of (with_library []) contents) l
-known contents = (
+known : (given : List Class) (contents : List FileContent) → (l : Loaded) × Known (world_of (with_library given) contents) l
+known [] contents = (
+  _,
+  record {
+    named = refl;
+    own = record { l = _; named = refl; at = refl };
+    own_is = refl;
+    size = refl;
+    string = record { l = _; named = refl; at = refl };
+  },
+)
+known (c ∷ given) contents = (
   _,
   record {
     named = refl;
@@ -50,11 +61,11 @@ known contents = (
 )
 
 pub known_in :
-    (world : World) (contents : List FileContent) (error : Loaded) → world ≡ world_of (with_library []) contents
+    (world : World) (given : List Class) (contents : List FileContent) (error : Loaded) → world ≡ world_of (with_library given) contents
     → class_named world (codes "java/lang/OutOfMemoryError") ≡ Some error → Known world error
-known_in world contents error is named =
+known_in world given contents error is named =
     subst (λ (w : World). class_named w (codes "java/lang/OutOfMemoryError") ≡ Some error → Known w error) (sym is)
-    (λ e. let k = known contents in subst (λ (l : Loaded). Known (world_of (with_library []) contents) l) (same_some k.0 error (sym k.1.named ∙ e)) k.1)
+    (λ e. let k = known given contents in subst (λ (l : Loaded). Known (world_of (with_library given) contents) l) (same_some k.0 error (sym k.1.named ∙ e)) k.1)
     named
 
 -- ---- objects
@@ -149,7 +160,7 @@ module _ (static_words literal_count cells output : ℕ) (input : List ℕ) (bef
       → length held.output.items + held.output_left ≤ vec_capacity held.output
       → held.input.items ≡ input → held.read ≡ 0 → Starts static_words literal_count input cells output after held
   begins both statics literals paid left none room waits unread world texts budget error h =
-      let k = known_in world h.guests.0 error h.guests.1 h.error_named in
+      let k = known_in world h.guests.given h.guests.contents error h.guests.world_is h.error_named in
       let addresses = held.out_of_memory ∷ held.arguments ∷ [] in
       record {
         objects = both_stand world error held.out_of_memory held.arguments before after k both;

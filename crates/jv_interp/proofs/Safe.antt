@@ -1,6 +1,5 @@
 -- A judged guest's machine goes on (JVMS 4.10): so a guest that stands can take its steps.
 use Rattle.std.proofs.Common.{◌≡◌, ℕ, zero, suc, Bool, ◌+◌, List, [], ◌∷◌, Ok, Err, IsOk, IsTrue, Contains, refl, sym, ap, subst, ◌∙◌, arith}
-use Rattle.jv_meaning_world.specs.Library.{with_library}
 use Rattle.jv_meaning_world.specs.World.{World}
 use Rattle.jv_meaning_world.specs.Verdicts.{is_loadable}
 use Rattle.jv_meaning_machine.specs.Faults.{Fault, OrFault, ◌>>=◌}
@@ -9,12 +8,11 @@ use Rattle.jv_meaning_machine.specs.Frames.Frame.{Runs, Initializes}
 use Rattle.jv_meaning_machine.specs.State.{Program, End, State}
 use Rattle.jv_meaning_machine.specs.State.End.{Running, Returned, Threw, NoMain}
 use Rattle.jv_meaning_machine.specs.Start.{Budget}
-use Rattle.jv_meaning_machine.specs.Alone.{GuestFiles, Feed, Stands, came_at, fed, alone}
+use Rattle.jv_meaning_machine.specs.Alone.{GuestFiles, Feed, came_at, fed, alone}
 use Rattle.jv_meaning_machine.specs.Step.{step, after_steps}
 use Rattle.jv_meaning_machine.specs.Laws.Runs.{AloneStepsOn}
 use Rattle.jv_meaning_machine.specs.Laws.Ends.{EndFitsAlone}
-use Rattle.jv_sound.specs.Law.{NeverFaults, NoLibraryStands, ObjectsAreLoadable, InitializationsAreLoadable}
-use Rattle.jv_sound.proofs.NoLibrary.{world_without_library}
+use Rattle.jv_sound.specs.Law.{NeverFaults, ObjectsAreLoadable, InitializationsAreLoadable}
 use Rattle.jv_interp_heap.specs.ObjectsInBlocks.{Blocks}
 use Rattle.jv_interp_steps.specs.Guests.{IsGuest, IsLoadableOnTop}
 use Rattle.jv_interp_steps.specs.Running.{Leads, IsSafe, RunsFrom}
@@ -50,7 +48,7 @@ threw class e = cc
 no_main : NoMain ≡ Running → ⊥
 no_main e = cc
 
-module _ (never : NeverFaults) (stand : NoLibraryStands) (objects : ObjectsAreLoadable) (initializations : InitializationsAreLoadable) (on : AloneStepsOn) (g : GuestFiles)
+module _ (never : NeverFaults) (objects : ObjectsAreLoadable) (initializations : InitializationsAreLoadable) (on : AloneStepsOn) (g : GuestFiles)
     (b : Budget) (feeds : List Feed) (n : ℕ) (addresses : List ℕ) (guest : Guest) (blocks : Blocks)
     (h : GuestStands g b feeds n addresses guest blocks) where
   abbrev pub program : Program
@@ -59,18 +57,15 @@ module _ (never : NeverFaults) (stand : NoLibraryStands) (objects : ObjectsAreLo
   pub later_alone : (k : ℕ) (later : State) → after_steps program k h.state ≡ Ok later → alone h.judged g b feeds (n + k) ≡ Ok later
   later_alone k later e = on h.judged g b feeds n k h.state h.ran (h.came k) ∙ e
 
-  there : Stands h.judged.program.world (with_library h.right.given)
-  there = stand h.judged g.library g.files h.no_library h.right
-
   pub safe : IsSafe program h.state
   safe k later e =
       let here = later_alone k later e in
       let next =
-      taken program (came_at (suc (n + k)) feeds) (alone h.judged g b feeds (n + k)) later here (never h.judged g b feeds (suc (n + k)) h.right there) in (
+      taken program (came_at (suc (n + k)) feeds) (alone h.judged g b feeds (n + k)) later here (never h.judged g b feeds (suc (n + k)) h.right h.library_stands) in (
         next.0,
         record {
-          objects = objects h.judged g b feeds (n + k) later h.right there here;
-          initialized = on_top program.world later.frames (initializations h.judged g b feeds (n + k) later h.right there here);
+          objects = objects h.judged g b feeds (n + k) later h.right h.library_stands here;
+          initialized = on_top program.world later.frames (initializations h.judged g b feeds (n + k) later h.right h.library_stands here);
           does = next.1;
         },
       )
@@ -78,7 +73,15 @@ module _ (never : NeverFaults) (stand : NoLibraryStands) (objects : ObjectsAreLo
   pub is_guest : IsGuest guest.judged.world guest.verified.items program
   is_guest = record {
     world_is = h.world_is;
-    guests = (h.right.contents, world_without_library h.judged g.library g.files h.no_library h.right, g.files, h.right.held);
+    guests = record {
+      library = g.library;
+      given = h.right.given;
+      gives = h.right.gives;
+      files = g.files;
+      contents = h.right.contents;
+      held = h.right.held;
+      world_is = h.right.world;
+    };
     few = h.tables.few;
     finds = h.right.instructions;
     units = h.right.units;

@@ -1,10 +1,11 @@
 -- What it means that what is kept of a guest stands for the state that its own files give on the machine alone (JVMS 2.5; own). Under
 -- addresses of the store, without repeats, stand the guest's objects in the order in which it made them.
 use Rattle.std.specs.Prelude.{◌≡◌, ℕ, ◌+◌, ◌<◌, ◌≤◌, List, [], ◌∷◌, ◌++◌, Ok, Contains, length}
+use Rattle.jv_meaning_world.specs.Library.{with_library}
 use Rattle.jv_meaning_world.specs.World.{World}
 use Rattle.jv_meaning_machine.specs.State.{State}
 use Rattle.jv_meaning_machine.specs.Start.{Budget}
-use Rattle.jv_meaning_machine.specs.Alone.{GuestFiles, Judged, IsJudged, Feed, alone}
+use Rattle.jv_meaning_machine.specs.Alone.{GuestFiles, Judged, IsJudged, Feed, Stands, alone}
 use Rattle.jv_meaning_machine.specs.Laws.Feeds.{NothingComes}
 use Rattle.jv_link_cache.specs.Linked.{IsLinked}
 use Rattle.jv_interp_heap.specs.ObjectsInBlocks.{Blocks}
@@ -19,20 +20,20 @@ use Rattle.jv_interp.specs.declared.guest.Guest.{Guest}
 abbrev pub kept_of : Guest → Blocks → Kept
 kept_of guest blocks = kept guest.frames guest.control guest.held blocks
 
--- What is known of its classes, of which there are at most 1,057 (own): what they link to, their methods and their texts.
+-- What is known of its classes, of which there are at most 2,083 (own): what they link to, their methods and their texts.
 pub record AreTables (world : World) (guest : Guest) : Type 0 where
   pub linked : IsLinked world guest.linked
   pub methods : AreMethods world guest.methods
   pub texts : AreTexts world guest.texts
-  pub few : length world ≤ 1057
+  pub few : length world ≤ 2083
 
--- A guest with these files and this budget, and without a library, which was fed so, stands after so many of its own steps. What came, came
--- by then.
+-- A guest with these files and this budget, which was fed so, stands after so many of its own steps, where its host's library stands. What
+-- came, came by then.
 pub record GuestStands (g : GuestFiles) (b : Budget) (feeds : List Feed) (n : ℕ) (addresses : List ℕ) (guest : Guest)
     (blocks : Blocks) : Type 0 where
-  pub no_library : g.library ≡ []
   pub judged : Judged
   pub right : IsJudged g.library g.files judged
+  pub library_stands : Stands judged.program.world (with_library right.given)
   pub world_is : judged.program.world ≡ guest.judged.world
   pub verdicts_are : judged.verdicts ≡ guest.judged.verdicts
   pub verified_are : AreVerified judged.program guest.verified.items

@@ -1,8 +1,9 @@
 -- Which classes of a guest were accepted together with all classes and interfaces above them (JVMS 4.10, 5.4.1), by their numbers: as the
 -- verdicts on the guest's files tell it.
-use Rattle.std.specs.Prelude.{◌≡◌, ℕ, Bool, true, false, not, ◌&&◌, ◌||◌, List, [], ◌++◌, replicate, Option, Some, None, slice_get}
+use Rattle.std.specs.Prelude.{◌≡◌, ℕ, Bool, true, false, not, ◌&&◌, ◌||◌, ◌+◌, List, ◌++◌, length, replicate, Option, Some, None, slice_get}
 use Rattle.std.specs.List.{filter_map, list_all}
 use Rattle.jv_meaning_world.specs.declared.verdict.LoadVerdict.TheVariants.{Version, Format, Unsupported, Reserved, Duplicate}
+use Rattle.jv_meaning_world.specs.Library.{with_library}
 use Rattle.jv_meaning_world.specs.World.{Loaded, World}
 use Rattle.jv_meaning_world.specs.Above.{above, is_above}
 use Rattle.jv_meaning_typing.specs.declared.verdict.Verdict.{Verdict}
@@ -23,9 +24,10 @@ class_accepted (verdicts.Refused Duplicate) = None
 class_accepted verdicts.Accepted = Some true
 class_accepted _ = Some false
 
--- of each class of the world: the system's 33 stand first, and all of them were; behind them stand those of the files, in their order
-abbrev pub accepted_by : List Verdict → List Bool
-accepted_by all = replicate 33 true ++ filter_map class_accepted all
+-- of each class of the world: so many that the host gives stand first, and all of them were; behind them stand those of the files, in their
+-- order
+abbrev pub accepted_by : (host : ℕ) → List Verdict → List Bool
+accepted_by host all = replicate host true ++ filter_map class_accepted all
 
 -- ---- what is told of classes
 
@@ -50,5 +52,6 @@ TellWithAbove world flags all = (test : Loaded → Bool) → TellsEach world fla
 -- Of each guest that has these classes and these verdicts, the machine takes a class for verified exactly where this is told (5.4.1).
 abbrev pub AreVerifiedClasses : Verified → List Bool → Type 0
 AreVerifiedClasses found all =
-    (files : List (List ℕ)) (judged : Judged) → IsJudged [] files judged → judged.program.world ≡ found.world
-    → judged.verdicts ≡ found.verdicts → AreVerified judged.program all
+    (library files : List (List ℕ)) (judged : Judged) (right : IsJudged library files judged) → judged.program.world ≡ found.world
+    → judged.verdicts ≡ found.verdicts
+    → found.host ≡ length (with_library right.given).system + length (with_library right.given).front → AreVerified judged.program all

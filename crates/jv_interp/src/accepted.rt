@@ -9,9 +9,6 @@ use jv_meaning_world::LoadVerdict;
 use jv_verify::Verified;
 use std::alloc::{AllocError, Global};
 
-/// How many classes the system has.
-const SYSTEM_COUNT: usize = 33;
-
 /// Whether the class of a file with a verdict was accepted, where it is one of the world's.
 fn class_accepted(verdict: Verdict) -> Option<bool>
     ensures { result ≡ class_accepted verdict }
@@ -37,14 +34,14 @@ fn push_some(flags: &mut Vec<bool>, flag: Option<bool>) -> Result<(), AllocError
     }
 }
 
-/// Of each class, by its number, whether it was accepted (JVMS 4.10).
+/// Of each class, by its number, whether it was accepted (JVMS 4.10): each that the host gives was.
 pub(crate) fn accepted_classes(
     alloc: Global,
     verified: &Verified<'_>,
 ) -> Result<Vec<bool>, AllocError>
-    ensures { IfOk result (λ flags. flags.items ≡ accepted_by verified.now.verdicts) }
+    ensures { IfOk result (λ flags. flags.items ≡ accepted_by verified.now.host verified.now.verdicts) }
 {
-    let mut flags = vec![in alloc; true; SYSTEM_COUNT]?;
+    let mut flags = vec![in alloc; true; verified.host_count()]?;
     for file in 0..verified.file_count() {
         push_some(&mut flags, class_accepted(verified.verdict(file)))?;
     }

@@ -1,9 +1,8 @@
 //! A guest at its start.
 
-ghost use Rattle.std.specs.Prelude.{◌≡◌, ◌+◌, ◌<◌, ◌≤◌, ℕ, List, IfOk, OnErr, length};
+ghost use Rattle.std.specs.Prelude.{◌≡◌, ◌+◌, ◌<◌, ◌≤◌, IfOk, OnErr, length};
 ghost use Rattle.jv_store.specs.Content.{words_held};
-ghost use Rattle.jv_verify.specs.Files.{AreFilesOf};
-ghost use Rattle.jv_interp.specs.Beginning.{HasBegun};
+ghost use Rattle.jv_interp.specs.Beginning.{HasBegun, HasStanding};
 
 use crate::budget::Budget;
 use crate::first::Started;
@@ -15,7 +14,7 @@ use jv_interp_objects::Texts;
 use jv_link_cache::link;
 use jv_meaning_machine::judged_by_verdicts;
 use jv_meaning_world::one_content;
-use jv_sound::{never_faults, no_library_stands};
+use jv_sound::never_faults;
 use jv_store::{OutOfMemory, Store};
 use jv_verify::Verified;
 use std::alloc::Global;
@@ -31,8 +30,8 @@ fn begin_in_room<'a, S: Store>(
     budget: Budget,
     store: &mut S,
 ) -> Result<Guest<'a>, OutOfMemory>
-    requires files { (files : List (List ℕ)) × AreFilesOf files judged }
-    requires few { length judged.world ≤ 1057 }
+    requires files { HasStanding judged }
+    requires few { length judged.world ≤ 2083 }
     requires some { 4 ≤ budget.cells }
     requires few_cells { budget.cells < 2147483648 }
     requires cells { budget.cells ≤ S.room_left store.old }
@@ -45,7 +44,6 @@ fn begin_in_room<'a, S: Store>(
     one_content();
     judged_by_verdicts();
     never_faults();
-    no_library_stands();
     let classes = judged.classes();
     let Ok(linked) = link(alloc, classes) else {
         return Err(OutOfMemory);
@@ -90,8 +88,8 @@ impl<'a> Guest<'a> {
         budget: Budget,
         store: &mut S,
     ) -> Result<Guest<'a>, OutOfMemory>
-        requires files { (files : List (List ℕ)) × AreFilesOf files judged }
-        requires few { length judged.world ≤ 1057 }
+        requires files { HasStanding judged }
+        requires few { length judged.world ≤ 2083 }
         requires some { 4 ≤ budget.cells }
         requires few_cells { budget.cells < 2147483648 }
         requires total { S.room_left store.old + words_held (S.content store.old) + budget.cells ≤ 4294967294 }

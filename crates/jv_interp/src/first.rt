@@ -55,7 +55,7 @@ fn first_control(
     requires place { IfSome place (IsMethodPlace classes.now.world) }
     ensures { IfOk result (FirstControl classes.now.world place) }
 {
-    let states = start_states(alloc, classes.table().count())?;
+    let states = start_states(alloc, classes.table())?;
     Ok(Control {
         states,
         throws: 0,

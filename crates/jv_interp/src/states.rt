@@ -1,31 +1,37 @@
 //! The states of classes at the start.
 
-ghost use Rattle.std.specs.Prelude.{◌≡◌, IfOk};
-ghost use Rattle.jv_interp.specs.StartStates.{states_at_start, AreStatesAtStart};
+ghost use Rattle.std.specs.Prelude.{◌≡◌, [], IfOk};
+ghost use Rattle.jv_meaning_machine.specs.State.{class_state};
+ghost use Rattle.jv_interp_held.specs.ClassStates.{kept_state};
+ghost use Rattle.jv_interp.specs.StartStates.{AreStatesAtStart};
 
 use jv_interp_held::ClassState;
+use jv_link::class_at;
+use jv_loader::{ClassTable, LoadedClass};
 use std::alloc::{AllocError, Global};
 
-/// How many classes the system has.
-const SYSTEM_COUNT: usize = 33;
-
-/// The states of so many classes, those of the system before the others.
-fn first_states(alloc: Global, class_count: usize) -> Result<Vec<ClassState>, AllocError>
-    ensures { IfOk result (λ states. states.items ≡ states_at_start class_count) }
+/// The state of a class before anything is begun (JVMS 5.5): a class of the system is initialized (own), and no other one.
+fn first_state(class: &LoadedClass<'_>) -> ClassState
+    ensures { result ≡ kept_state (class_state [] class.now) }
 {
-    let mut states = vec![in alloc; ClassState::Initialized; SYSTEM_COUNT]?;
-    states.resize(class_count, ClassState::Untouched)?;
-    Ok(states)
+    if class.by_system() {
+        ClassState::Initialized
+    } else {
+        ClassState::Untouched
+    }
 }
 
-/// The states of the classes of a guest, of which there are so many (JVMS 5.5): those of the system are initialized (own), and no other.
+/// The states of a guest's classes before anything is begun (JVMS 5.5): those of the system are initialized (own), and no other.
 ///
 /// # Errors
 ///
 /// Where the host had no memory for them.
-pub fn start_states(alloc: Global, class_count: usize) -> Result<Vec<ClassState>, AllocError>
-    ensures { IfOk result (λ states. AreStatesAtStart class_count states.items) }
+pub fn start_states(alloc: Global, table: &ClassTable<'_>) -> Result<Vec<ClassState>, AllocError>
+    ensures { IfOk result (λ states. AreStatesAtStart table.now states.items) }
 {
-    let states = first_states(alloc, class_count)?;
+    let mut states = Vec::with_capacity(alloc, table.count())?;
+    for class in 0..table.count() {
+        states.push(first_state(class_at(table, class)))?;
+    }
     Ok(states)
 }

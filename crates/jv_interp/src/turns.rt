@@ -8,9 +8,7 @@ use crate::guest::Guest;
 use jv_interp_control::End;
 use jv_interp_steps::{Turn, run};
 use jv_meaning_machine::{alone_steps_on, end_fits_alone, shows_one_thing};
-use jv_sound::{
-    initializations_are_loadable, never_faults, no_library_stands, objects_are_loadable,
-};
+use jv_sound::{initializations_are_loadable, never_faults, objects_are_loadable};
 use jv_store::{OutOfMemory, Store};
 
 impl Guest<'_> {
@@ -48,7 +46,6 @@ impl Guest<'_> {
         alone_steps_on();
         end_fits_alone();
         never_faults();
-        no_library_stands();
         objects_are_loadable();
         initializations_are_loadable();
         let turn = run(

@@ -1,6 +1,6 @@
 -- In the world of a guest's files a field with a constant is static, the constant is of its type, and its value stands at its word among those
 -- of all static fields (JVMS 4.5, 4.7.2).
-use Rattle.std.proofs.Common.{◌≡◌, ℕ, zero, suc, Bool, true, false, not, ◌&&◌, ◌==◌, List, Option, Some, None, refl, sym, ap, subst, ◌∙◌, arith, if◌then◌else◌, slice_get}
+use Rattle.std.proofs.Common.{◌≡◌, ℕ, zero, suc, Bool, true, false, not, ◌&&◌, ◌==◌, List, [], ◌∷◌, Option, Some, None, refl, sym, ap, subst, ◌∙◌, arith, if◌then◌else◌, slice_get}
 use Rattle.std.specs.Prelude.{IsTrue, codes}
 use Rattle.std.specs.List.{Contains, list_all}
 use Rattle.std.specs.Option.{IsSomeAnd, option_map}
@@ -30,7 +30,6 @@ use Rattle.jv_class.specs.ClassFile.{IsWellFormed}
 use Rattle.jv_class.specs.Rules.{KeepsRulesAsField, KeepsFieldRules, is_integer, is_long, is_string, takes, value_keeps_rules}
 use Rattle.jv_class.specs.Supported.{HasNoFloating, IsSupportedType}
 use Rattle.jv_meaning_world.specs.FileContent.{IsProfileClass}
-use Rattle.jv_meaning_world.specs.System.Classes.{system_classes}
 use Rattle.jv_meaning_world.specs.World.{Loaded, World}
 use Rattle.jv_meaning_world.specs.LookUps.{DeclaredField, field_by}
 use Rattle.jv_meaning_typing.specs.Kind.{is_static_field}
@@ -43,6 +42,7 @@ use Rattle.jv_interp_held.specs.HeldInWords.{static_fields}
 use Rattle.jv_interp_heap.specs.SystemNumbers.{IsGuestsWorld}
 use Rattle.jv_interp_members.proofs.Sites.{stood}
 use Rattle.jv_interp_members.proofs.FieldsOfFiles.{both, clash, each_passes, chained, some_same, found_each, field_named, fields_found, each_keeps}
+use Rattle.jv_interp_members.proofs.Given.{own_classes}
 use Rattle.jv_interp_members.proofs.FieldPlaces.{static_place}
 
 -- ---- what is to be shown
@@ -123,9 +123,10 @@ passed_right class e f constant h initial =
     by_type None typed k = clash (sym k)
     by_type (Some type) typed k = record { static = static; type = type; typed = typed; fits = passed_type (value_type type) constant k }
 
-system_passes : list_all class_passes system_classes ≡ true
+own_pass : (library : List Class) → list_all class_passes (own_classes library) ≡ true
 unfolding class_passes initial_passes fits_its_type is_of_type
-system_passes = refl
+own_pass [] = refl
+own_pass (c ∷ library) = refl
 
 -- ---- by the rules of a file (4.7.2, table 4.7.2-A)
 
@@ -228,7 +229,7 @@ constants_fit world guests class place l f constant word class_is field_is initi
     let here = stood world class l class_is in
     let among = stood l.class.fields place f field_is in
     let right =
-    each_keeps HasRightConstants structure_right (λ c h. passed_right c (each_passes class_passes system_classes system_passes c h)) world guests l here f
+    each_keeps HasRightConstants structure_right (λ library c h. passed_right c (each_passes class_passes (own_classes library) (own_pass library) c h)) world guests l here f
     constant among initial in
     record {
       type = right.type;

@@ -105,8 +105,8 @@ pub few_tasks :
     → length (tasks_of world l) < 4294967296
 few_tasks world guests l here loadable few_classes =
     let straight : IsStraight world l =
-    subst (λ (w : World). (m : Loaded) → Contains w m → IsTrue (is_loadable w m) → IsStraight w m) (sym guests.1)
-    (are_straight guests.0 above_by_ways loadable_by_all).loadable l here loadable in
+    subst (λ (w : World). (m : Loaded) → Contains w m → IsTrue (is_loadable w m) → IsStraight w m) (sym guests.world_is)
+    (are_straight guests.given guests.contents above_by_ways loadable_by_all).loadable l here loadable in
     let settings = few_settings l l.class.fields in
     let fields = (fields_keep_rules world guests l here).few in
     let before = few_before world l straight.above_it in

@@ -33,7 +33,7 @@ same_ok : {A : Type 0} (x y : A) → ◌≡◌ {A = OrFault A} (Ok x) (Ok y) →
 same_ok x y e = cc
 
 pub numbers_in : (world : World) → IsGuestsWorld world → SystemHasNumbers → AreSystemNumbers world
-numbers_in world guests system = subst (λ (w : World). AreSystemNumbers w) (sym guests.1) (system guests.0)
+numbers_in world guests system = subst (λ (w : World). AreSystemNumbers w) (sym guests.world_is) (system guests.given guests.contents)
 
 -- a class has one name
 pub same_name_at : (world : World) (a b : List ℕ) (class : ℕ) → HasNumber world a class → HasNumber world b class → a ≡ b
@@ -138,8 +138,8 @@ module _ (world : World) (program : Program) (texts : List (List ℕ)) (t behind
       same_name_at program.world t.class (codes "java/lang/ExceptionInInitializerError") 23
       (subst (λ (n : ℕ). HasNumber program.world t.class n) e h.stands.class) numbers.in_initializer in
       ap (λ (text : List ℕ). is_at_or_below program.world text (codes "java/lang/Error")) name
-      ∙ ap (λ (w : World). is_at_or_below w (codes "java/lang/ExceptionInInitializerError") (codes "java/lang/Error")) h.guests.1
-      ∙ initializer_error h.guests.0
+      ∙ ap (λ (w : World). is_at_or_below w (codes "java/lang/ExceptionInInitializerError") (codes "java/lang/Error")) h.guests.world_is
+      ∙ initializer_error h.guests.given h.guests.contents
 
   pub stays : is_at_or_below program.world t.class (codes "java/lang/Error") ≡ true → Replaced program texts t behind addresses blocks now held blocks
   stays e =

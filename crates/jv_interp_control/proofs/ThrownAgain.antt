@@ -1,7 +1,8 @@
 -- What is thrown has a class, which its object tells (JVMS 2.10; own).
-use Rattle.std.proofs.Common.{◌≡◌, ℕ, ◌+◌, ◌-◌, ◌^◌, ◌<◌, min, true, List, Some, Ok, codes, length, get_or, slice_get, refl, sym, ap, subst, ◌∙◌, arith, []}
+use Rattle.std.proofs.Common.{◌≡◌, ℕ, ◌+◌, ◌-◌, ◌^◌, ◌<◌, min, true, List, Some, Ok, codes, length, get_or, slice_get, refl, sym, ap, subst, ◌∙◌, arith, [], ◌∷◌}
 use Rattle.jv_store.specs.Content.{words_at}
 use Rattle.jv_meaning_world.specs.FileContent.{FileContent}
+use Rattle.jv_class.specs.Class.{Class}
 use Rattle.jv_meaning_world.specs.Library.{with_library}
 use Rattle.jv_meaning_world.specs.World.{World, world_of}
 use Rattle.jv_meaning_machine.specs.Faults.{OrFault, ◌>>=◌}
@@ -24,9 +25,10 @@ same_some x y e = cc
 
 -- an ExceptionInInitializerError is an Error
 pub initializer_error :
-    (contents : List FileContent)
-    → is_at_or_below (world_of (with_library []) contents) (codes "java/lang/ExceptionInInitializerError") (codes "java/lang/Error") ≡ true
-initializer_error contents = refl
+    (library : List Class) (contents : List FileContent)
+    → is_at_or_below (world_of (with_library library) contents) (codes "java/lang/ExceptionInInitializerError") (codes "java/lang/Error") ≡ true
+initializer_error [] contents = refl
+initializer_error (c ∷ library) contents = refl
 
 -- ---- the machine's throw of what was made
 

@@ -1,17 +1,23 @@
 -- The numbers of the system's classes whose objects the machine makes or throws, and of java/lang/Error (own): they stand first in
 -- the world of each guest.
-use Rattle.std.specs.Prelude.{◌≡◌, ℕ, ◌++◌, List, codes, []}
+use Rattle.std.specs.Prelude.{◌≡◌, ℕ, ◌++◌, List, codes}
+use Rattle.jv_class.specs.Class.{Class}
 use Rattle.jv_meaning_world.specs.FileContent.{FileContent, AreContents}
-use Rattle.jv_meaning_world.specs.Library.{with_library}
+use Rattle.jv_meaning_world.specs.Library.{IsLibrary, with_library}
 use Rattle.jv_meaning_world.specs.World.{World, world_of}
 use Rattle.jv_meaning_machine.specs.Literals.{string_name}
 use Rattle.jv_interp_heap.specs.ObjectsInBlocks.{HasNumber}
 use Rattle.jv_interp_heap.specs.declared.numbers.TheConstants.{STRING, ERROR, ARITHMETIC, ARRAY_STORE, CLASS_CAST, NEGATIVE_SIZE, NULL_POINTER, ARRAY_INDEX, OUT_OF_MEMORY, STACK_OVERFLOW, CIRCULARITY, IN_INITIALIZER, CLASS_CHANGE, NO_CLASS, VERIFY, ABSTRACT_METHOD, ILLEGAL_ACCESS, INSTANTIATION, NO_FIELD, NO_METHOD}
 
--- the world of a guest's files, by what they hold
-abbrev pub IsGuestsWorld : World → Type 0
-IsGuestsWorld world =
-    (contents : List FileContent) × (world ≡ world_of (with_library []) contents) × (files : List (List ℕ)) × AreContents files contents
+-- the world of a guest's files behind those of a library, by what both hold
+pub record IsGuestsWorld (world : World) : Type 0 where
+  pub library : List (List ℕ)
+  pub given : List Class
+  pub gives : IsLibrary library given
+  pub files : List (List ℕ)
+  pub contents : List FileContent
+  pub held : AreContents files contents
+  pub world_is : world ≡ world_of (with_library given) contents
 
 abbrev pub IsNumbered : World → List ℕ → ℕ → Type 0
 IsNumbered world simple number = HasNumber world (codes "java/lang/" ++ simple) number
@@ -38,6 +44,6 @@ pub record AreSystemNumbers (world : World) : Type 0 where
   pub no_field : IsNumbered world (codes "NoSuchFieldError") NO_FIELD
   pub no_method : IsNumbered world (codes "NoSuchMethodError") NO_METHOD
 
--- A law: in the world of each guest they have these numbers.
+-- A law: in the world of each guest they have these numbers, whatever its host gives.
 abbrev pub SystemHasNumbers : Type 0
-SystemHasNumbers = (contents : List FileContent) → AreSystemNumbers (world_of (with_library []) contents)
+SystemHasNumbers = (given : List Class) (contents : List FileContent) → AreSystemNumbers (world_of (with_library given) contents)

@@ -76,7 +76,7 @@ pub arithmetic_done :
 arithmetic_done insn next at words throws numbers texts held blocks c addresses done below h =
     raised (part_of insn) texts next (place at words held blocks) c addresses done below h.executes division_by_zero ARITHMETIC
     (throws c addresses done below (works_of insn texts next at words held blocks c addresses done below h))
-    (subst (λ world. HasNumber world division_by_zero ARITHMETIC) (sym h.guests.1) (numbers h.guests.0).arithmetic)
+    (subst (λ world. HasNumber world division_by_zero ARITHMETIC) (sym h.guests.world_is) (numbers h.guests.given h.guests.contents).arithmetic)
 
 -- ---- returns
 

@@ -168,7 +168,7 @@ module _ (how : Use) (index next : ℕ) (k : Known) (here : Place) (texts : List
       by_receiver Null kind does t =
           raised (λ c. call c (seen_use how) index) texts next here c addresses done below h.executes null_pointer 15
           (done_same (c.memory, Raises null_pointer) done (sym (u.of_null c f.target on.arguments on.rest) ∙ does))
-          (subst (λ (w : World). HasNumber w null_pointer 15) (sym (h.known.world ∙ h.known.guests.1)) (system_numbers h.known.guests.0).null_pointer)
+          (subst (λ (w : World). HasNumber w null_pointer 15) (sym (h.known.world ∙ h.known.guests.world_is)) (system_numbers h.known.guests.given h.known.guests.contents).null_pointer)
       by_receiver (Reference id) kind does t =
           let r = reference_word addresses id word words.more words.under t in
           absurd (not_zero addresses id word h.executes.memory.objects.are r.0 zero_is)

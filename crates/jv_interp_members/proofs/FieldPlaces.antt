@@ -292,7 +292,7 @@ few_fields (l ∷ ls) rules =
 
 module _ (world : World) (guests : IsGuestsWorld world) where
   names : HaveOwnNames world
-  names = subst HaveOwnNames (sym guests.1) (names_differ guests.0)
+  names = subst HaveOwnNames (sym guests.world_is) (names_differ guests.given guests.contents)
 
   one_of_name : (ls : List Loaded) → HaveOwnNames ls → (a b : Loaded) → Contains ls a → Contains ls b → a.class.name ≡ b.class.name → a ≡ b
   one_of_name [] own a b h k same = absurd (none a h)
@@ -332,8 +332,8 @@ module _ (world : World) (guests : IsGuestsWorld world) where
     instance_word plain name l place named loadable e =
         let here = named_stands world name l named in
         let straight : IsStraight world l =
-        subst (λ (w : World). (m : Loaded) → Contains w m → IsTrue (is_loadable w m) → IsStraight w m) (sym guests.1)
-        (are_straight guests.0 above_by_ways loadable_by_all).loadable l here loadable in
+        subst (λ (w : World). (m : Loaded) → Contains w m → IsTrue (is_loadable w m) → IsStraight w m) (sym guests.world_is)
+        (are_straight guests.given guests.contents above_by_ways loadable_by_all).loadable l here loadable in
         let found = among_is (key_of d) (instance_fields world l) place e in
         let same = same_texts (key_of d) (key_of found.0) found.2 in
         let inside = in_own (λ f. not (is_static_field f)) (reverse (upward world l)) found.0 found.1 in
@@ -353,7 +353,7 @@ module _ (world : World) (guests : IsGuestsWorld world) where
         one_some : (a b : ℕ) → Some a ≡ Some b → a ≡ b
         one_some a b e = cc
 
-    few_word : length world ≤ 1057 → IsFalse (is_static_field d.field) → word < 1073741824
+    few_word : length world ≤ 2083 → IsFalse (is_static_field d.field) → word < 1073741824
     few_word few plain =
         let laid = subst (λ (b : Bool). Contains (if b then static_layout world else layout world d.by) (laid_at d word)) plain is_word in
         let ends = within (layout world d.by) (layout_is_by_rule world d.by).within (laid_at d word) laid in
@@ -371,7 +371,7 @@ module _ (world : World) (guests : IsGuestsWorld world) where
               | inr k ↦ within ps all.1 p k
             ]
 
-    pub stands_at_word : length world ≤ 1057 → StandsAtItsWord world d word
+    pub stands_at_word : length world ≤ 2083 → StandsAtItsWord world d word
     stands_at_word few = record {
       typed = (rules d.by by).described d.field among;
       static = static_place;

@@ -18,12 +18,13 @@ use Rattle.jv_class.specs.ClassFile.{IsWellFormed, class_name}
 use Rattle.jv_class.specs.Rules.{KeepsRulesAsField, KeepsFieldRules, field_texts, NoTwoAlike}
 use Rattle.jv_meaning_world.specs.FileContent.{FileContent, IsProfileClass, IsContent, AreContents}
 use Rattle.jv_meaning_world.specs.declared.content.Content.TheVariants.{OtherVersion, NoClassFile, MoreThanProfile, Holds}
-use Rattle.jv_meaning_world.specs.System.Classes.{system_classes}
-use Rattle.jv_meaning_world.specs.Library.{with_library}
-use Rattle.jv_meaning_world.specs.World.{Loaded, World, loaded, is_reserved, has_class, with_class_of, joined_all, classes_in, world_of}
+use Rattle.jv_meaning_world.specs.Library.{system_with, with_library}
+use Rattle.jv_meaning_world.proofs.OrderWorlds.{in_library, to_held}
+use Rattle.jv_meaning_world.specs.World.{HostClasses, Loaded, World, loaded, is_reserved, has_class, with_class_of, joined_all, classes_in, world_of}
 use Rattle.jv_meaning_world.proofs.Up.{none, single, first, later}
 use Rattle.jv_meaning_typing.proofs.Found.{split}
 use Rattle.jv_interp_heap.specs.SystemNumbers.{IsGuestsWorld}
+use Rattle.jv_interp_members.proofs.Given.{own_classes, own_or_given}
 use Rattle.jv_interp_members.proofs.WorldNames.{in_loaded}
 
 -- no two of these have the same name and descriptor
@@ -95,9 +96,10 @@ passed_keep class e =
       few = ltb-true (length class.fields) 65536 rest.1;
     }
 
-system_passes : list_all class_passes system_classes ≡ true
+own_pass : (library : List Class) → list_all class_passes (own_classes library) ≡ true
 unfolding class_passes all_unlike is_alike
-system_passes = refl
+own_pass [] = refl
+own_pass (c ∷ library) = refl
 
 -- ---- by the rules of a file
 
@@ -285,23 +287,34 @@ module _ (P : Class → Type 0) (of_structure : (c : ClassStructure) (class : Cl
       by_content k = of_structure k.0 class k.1.well_formed k.2
 
   pub each_keeps :
-      ((c : Class) → Contains system_classes c → P c) → (world : World) → IsGuestsWorld world → (l : Loaded) → Contains world l → P l.class
-  each_keeps of_system world guests l h =
-      elim (Contains-append_cases (map (loaded true) system_classes) (map (loaded false) (classes_in (with_library []) guests.0)) l
-      (subst (λ (w : World). Contains w l) guests.1 h)) [
+      ((library : List Class) (c : Class) → Contains (own_classes library) c → P c) → (world : World) → IsGuestsWorld world → (l : Loaded)
+      → Contains world l → P l.class
+  each_keeps of_own world guests l h =
+      elim (Contains-append_cases (map (loaded true) (system_with guests.given)) (map (loaded false) (classes_in host guests.contents)) l
+      (subst (λ (w : World). Contains w l) guests.world_is h)) [
         | inl k ↦
-            let c = in_loaded true system_classes l k in
-            subst (λ (x : Loaded). P x.class) c.2 (of_system c.0 c.1)
-        | inr k ↦
-            let c = in_loaded false (classes_in (with_library []) guests.0) l k in
+            let c = in_loaded true (system_with guests.given) l k in
             subst (λ (x : Loaded). P x.class) c.2
-            (elim (joined_from [] guests.0 c.0 c.1) [
-              | inl j ↦ absurd (none c.0 j)
-              | inr j ↦ held_keeps guests.2 guests.0 guests.3 c.0 j
+            (elim (own_or_given guests.library guests.given guests.gives c.0 c.1) [
+              | inl j ↦ of_own guests.given c.0 j
+              | inr j ↦ of_library c.0 j
+            ])
+        | inr k ↦
+            let c = in_loaded false (classes_in host guests.contents) l k in
+            subst (λ (x : Loaded). P x.class) c.2
+            (elim (joined_from host.front guests.contents c.0 c.1) [
+              | inl j ↦ of_library c.0 (in_library guests.given c.0 j)
+              | inr j ↦ held_keeps guests.files guests.contents guests.held c.0 j
             ])
       ]
+    where
+      host : HostClasses
+      host = with_library guests.given
+
+      of_library : (c : Class) → Contains guests.given c → P c
+      of_library c j = held_keeps guests.library (map Holds guests.given) guests.gives.held c (to_held guests.given c j)
 
 pub fields_keep_rules : (world : World) → IsGuestsWorld world → (l : Loaded) → Contains world l → FieldsKeepRules l.class
 fields_keep_rules =
     each_keeps FieldsKeepRules (λ c class formed is. structure_keeps c class formed is.named)
-    (λ c h. passed_keep c (each_passes class_passes system_classes system_passes c h))
+    (λ library c h. passed_keep c (each_passes class_passes (own_classes library) (own_pass library) c h))

@@ -67,7 +67,7 @@ module _ (word width next : ℕ) (here : Place) (texts : List (List ℕ)) (c : C
             effect_stands =
                 subst (λ (l : List ℕ). EffectStands c.program.world l c.frame (Raises null_pointer) (effects.Raises 15) here.at (in_use here.words here.at.top) below)
                 (sym (append-nil addresses)) (
-                  subst (λ (w : World). HasNumber w null_pointer 15) (sym h.guests.1) (system_numbers h.guests.0).null_pointer,
+                  subst (λ (w : World). HasNumber w null_pointer 15) (sym h.guests.world_is) (system_numbers h.guests.given h.guests.contents).null_pointer,
                   record { pc_is = h.executes.pc_is; stand = h.executes.frame },
                 );
             memory =

@@ -10,12 +10,13 @@ use Rattle.jv_meaning_world.specs.System.Classes.{classes_with_files}
 use Rattle.jv_class_structure.specs.Flags.{acc_public, acc_static}
 use Rattle.jv_meaning_world.specs.System.Io.{io}
 use Rattle.jv_meaning_world.specs.System.Members.{method_without_code}
-use Rattle.jv_meaning_world.specs.Library.{with_library}
+use Rattle.jv_meaning_world.specs.Library.{borrowers, borrowers_more, lent, system_with, with_library}
 use Rattle.jv_meaning_world.specs.World.{Loaded, World, classes_in, loaded, world_of}
 use Rattle.jv_interp_members.proofs.Sites.{some_same}
 
-pub io_at : (contents : List FileContent) → slice_get (world_of (with_library []) contents) 32 ≡ Some (loaded true io)
-io_at contents = refl
+pub io_at : (library : List Class) (contents : List FileContent) → slice_get (world_of (with_library library) contents) 32 ≡ Some (loaded true io)
+io_at [] contents = refl
+io_at (c ∷ library) contents = refl
 
 abbrev pub is_host : Loaded → Bool
 is_host l = l.by_system && bytes_eq l.class.name (codes "host/Io")
@@ -52,22 +53,62 @@ in_guests [] (suc n) l e = absurd cc
 in_guests (class ∷ classes) zero l e = subst (λ (x : Loaded). is_host x ≡ false) (some_same (loaded false class) l e) refl
 in_guests (class ∷ classes) (suc n) l e = in_guests classes n l e
 
+-- those before host/Io, and those of the system behind it
+abbrev first_classes : List Class → List Class
+first_classes [] = classes_with_files
+first_classes (c ∷ library) = map (lent (c ∷ library)) borrowers
+
+abbrev last_classes : List Class → List Class
+last_classes [] = []
+last_classes (c ∷ library) = map (lent (c ∷ library)) borrowers_more
+
+parts_are : (library : List Class) (guests : World)
+    → map (loaded true) (system_with library) ++ guests
+    ≡ map (loaded true) (first_classes library) ++ loaded true io ∷ (map (loaded true) (last_classes library) ++ guests)
+parts_are [] guests = refl
+parts_are (c ∷ library) guests = refl
+
+first_plain : (library : List Class) → list_all plain (first_classes library) ≡ true
+first_plain [] = refl
+first_plain (c ∷ library) = refl
+
+last_plain : (library : List Class) → list_all plain (last_classes library) ≡ true
+last_plain [] = refl
+last_plain (c ∷ library) = refl
+
+first_size : (library : List Class) → length (first_classes library) ≡ 32
+first_size [] = refl
+first_size (c ∷ library) = refl
+
 pub other_class :
-    (contents : List FileContent) (number : ℕ) (l : Loaded) → slice_get (world_of (with_library []) contents) number ≡ Some l → (number ≡ 32 → ⊥)
-    → is_host l ≡ false
-other_class contents number l e other =
-    by_place (in_front classes_with_files (loaded true io ∷ map (loaded false) (classes_in (with_library []) contents)) number l refl e)
+    (library : List Class) (contents : List FileContent) (number : ℕ) (l : Loaded)
+    → slice_get (world_of (with_library library) contents) number ≡ Some l → (number ≡ 32 → ⊥) → is_host l ≡ false
+other_class library contents number l e other =
+    by_place (in_front (first_classes library) (loaded true io ∷ more) number l (first_plain library)
+    (subst (λ (w : World). slice_get w number ≡ Some l) (parts_are library guests) e))
   where
-    behind : (m : ℕ) → number ≡ 32 + m → slice_get (loaded true io ∷ map (loaded false) (classes_in (with_library []) contents)) m ≡ Some l → is_host l ≡ false
+    guests : World
+    guests = map (loaded false) (classes_in (with_library library) contents)
+
+    more : World
+    more = map (loaded true) (last_classes library) ++ guests
+
+    by_last : (m : ℕ) → (is_host l ≡ false) ⊎ ((k : ℕ) × (m ≡ length (last_classes library) + k) × (slice_get guests k ≡ Some l)) → is_host l ≡ false
+    by_last m (inl f) = f
+    by_last m (inr f) = in_guests (classes_in (with_library library) contents) f.0 l f.2
+
+    behind : (m : ℕ) → number ≡ 32 + m → slice_get (loaded true io ∷ more) m ≡ Some l → is_host l ≡ false
     behind zero is at = absurd (other (omega (arith, is)))
-    behind (suc m) is at = in_guests (classes_in (with_library []) contents) m l at
+    behind (suc m) is at = by_last m (in_front (last_classes library) guests m l (last_plain library) at)
 
     by_place :
-        (is_host l ≡ false)
-        ⊎ ((m : ℕ) × (number ≡ length classes_with_files + m) × (slice_get (loaded true io ∷ map (loaded false) (classes_in (with_library []) contents)) m ≡ Some l))
+        (is_host l ≡ false) ⊎ ((m : ℕ) × (number ≡ length (first_classes library) + m) × (slice_get (loaded true io ∷ more) m ≡ Some l))
         → is_host l ≡ false
     by_place (inl f) = f
-    by_place (inr f) = behind f.0 f.1 f.2
+    by_place (inr f) =
+        let is = f.1 in
+        let size = first_size library in
+        behind f.0 (omega (arith, is, size)) f.2
 
 -- ---- its methods
 

@@ -19,6 +19,7 @@ pub mod AtSite
 pub mod CallsWork
 pub mod HostMethods
 pub mod StaticWork
+pub mod Given
 pub mod WorldNames
 pub mod FieldsOfFiles
 pub mod FieldPlaces

@@ -59,4 +59,4 @@ pub numbered :
     → HasNumber world (error_class (error_of error)) number
 numbered law error known is number of_all world guests =
     subst (λ (e : LinkError). HasNumber world (error_class (error_of e)) number) (sym is)
-    (of_all world (subst (λ (w : World). AreSystemNumbers w) (sym guests.1) (law guests.0)))
+    (of_all world (subst (λ (w : World). AreSystemNumbers w) (sym guests.world_is) (law guests.given guests.contents)))

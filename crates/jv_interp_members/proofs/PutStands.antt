@@ -155,7 +155,7 @@ module _ (word slots : ℕ) (how : Narrowing) (next : ℕ) (here : Place) (texts
         by_reference Null does t =
             raised_in (λ c. put_field c reference d) texts next here c addresses done below h.executes null_pointer 15
             (done_same (c.memory, Raises null_pointer) done does)
-            (subst (λ (w : World). HasNumber w null_pointer 15) (sym h.guests.1) (system_numbers h.guests.0).null_pointer)
+            (subst (λ (w : World). HasNumber w null_pointer 15) (sym h.guests.world_is) (system_numbers h.guests.given h.guests.contents).null_pointer)
         by_reference (Reference id) does t =
             let r = reference_word addresses id object_word _ second.under t in
             absurd (not_zero addresses id object_word h.executes.memory.objects.are r.0 zero_is)

@@ -110,8 +110,8 @@ module _ (index next : ℕ) (k : Known) (here : Place) (texts : List (List ℕ))
 
     plain : (using_it.target.declared.class ≡ 32 → ⊥) → is_built_in f.target.declared ≡ false
     plain other =
-        other_class h.known.guests.0 using_it.target.declared.class f.target.declared.by
-        (subst (λ (w : World). slice_get w using_it.target.declared.class ≡ Some f.target.declared.by) h.known.guests.1 at.class) other
+        other_class h.known.guests.given h.known.guests.contents using_it.target.declared.class f.target.declared.by
+        (subst (λ (w : World). slice_get w using_it.target.declared.class ≡ Some f.target.declared.by) h.known.guests.world_is at.class) other
 
     pub enters :
         (using_it.target.declared.class ≡ 32 → ⊥) → (number : ℕ)
@@ -138,8 +138,8 @@ module _ (index next : ℕ) (k : Known) (here : Place) (texts : List (List ℕ))
       by_is : f.target.declared.by ≡ loaded true io
       by_is =
           sym (some_same (loaded true io) f.target.declared.by
-          (sym (io_at h.known.guests.0)
-          ∙ subst (λ (w : World). slice_get w 32 ≡ Some f.target.declared.by) h.known.guests.1
+          (sym (io_at h.known.guests.given h.known.guests.contents)
+          ∙ subst (λ (w : World). slice_get w 32 ≡ Some f.target.declared.by) h.known.guests.world_is
           (subst (λ (n : ℕ). slice_get k.world n ≡ Some f.target.declared.by) class_is at.class)))
 
       built_in : run_built_in c (names_write f.target.declared) runs.arguments runs.rest ≡ Ok done

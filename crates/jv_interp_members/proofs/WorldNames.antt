@@ -1,4 +1,4 @@
--- The classes in the world of a guest's files have names of their own (JVMS 5.3).
+-- The classes in the world of a guest's files behind a library have names of their own (JVMS 5.3).
 use Rattle.std.proofs.Common.{◌≡◌, ◌⊎◌, inl, inr, ℕ, Bool, true, false, not, ◌&&◌, ◌||◌, List, [], ◌∷◌, ◌++◌, map, refl, sym, ap, subst, ◌∙◌, if◌then◌else◌}
 use Rattle.std.specs.Prelude.{⊤, IsTrue}
 use Rattle.std.specs.List.{Contains, list_all}
@@ -8,9 +8,9 @@ use Rattle.std.proofs.lemmas.Slice.Eq.{bytes_eq-Decides}
 use Rattle.jv_class.specs.Class.{Class}
 use Rattle.jv_meaning_world.specs.FileContent.{FileContent}
 use Rattle.jv_meaning_world.specs.declared.content.Content.TheVariants.{OtherVersion, NoClassFile, MoreThanProfile, Holds}
-use Rattle.jv_meaning_world.specs.System.Classes.{system_classes}
-use Rattle.jv_meaning_world.specs.Library.{with_library}
+use Rattle.jv_meaning_world.specs.Library.{front_of, system_with, with_class_more, with_library}
 use Rattle.jv_meaning_world.specs.World.{Loaded, World, loaded, is_reserved, has_class, with_class_of, joined_all, classes_in, world_of}
+use Rattle.jv_meaning_world.proofs.Libraries.{not_of_system, system_reserved}
 use Rattle.jv_meaning_world.proofs.Up.{none, single, first, later}
 use Rattle.jv_meaning_typing.proofs.Found.{split}
 
@@ -62,40 +62,54 @@ joined_once (x ∷ cs) c once new =
       joined_once cs c once.1 parts.1,
     )
 
--- ---- those of a guest's files: their names are not reserved
+-- ---- those in front and those of a guest's files: no class of the system has their names
 
-record AreOwn (cs : List Class) : Type 0 where
-  once : AreOnce cs
-  free : (c : Class) → Contains cs c → is_reserved c.name ≡ false
+module _ (library : List Class) where
+  record AreOwn (cs : List Class) : Type 0 where
+    once : AreOnce cs
+    free : (c : Class) → Contains cs c → has_class (system_with library) c.name ≡ false
 
-no_classes : AreOwn []
-no_classes = record { once = tt; free = λ c h. absurd (none c h) }
+  no_classes : AreOwn []
+  no_classes = record { once = tt; free = λ c h. absurd (none c h) }
 
-one_more : (cs : List Class) (c : Class) → AreOwn cs → is_reserved c.name ≡ false → has_class cs c.name ≡ false → AreOwn (cs ++ c ∷ [])
-one_more cs c own free new = record {
-  once = joined_once cs c own.once new;
-  free =
-      λ other h.
-      elim (Contains-append_cases cs (c ∷ []) other h) [
-        | inl k ↦ own.free other k
-        | inr k ↦ subst (λ (y : Class). is_reserved y.name ≡ false) (single c other k) free
-      ];
-}
+  one_more : (cs : List Class) (c : Class) → AreOwn cs → has_class (system_with library) c.name ≡ false → has_class cs c.name ≡ false → AreOwn (cs ++ c ∷ [])
+  one_more cs c own free new = record {
+    once = joined_once cs c own.once new;
+    free =
+        λ other h.
+        elim (Contains-append_cases cs (c ∷ []) other h) [
+          | inl k ↦ own.free other k
+          | inr k ↦ subst (λ (y : Class). has_class (system_with library) y.name ≡ false) (single c other k) free
+        ];
+  }
 
-with_one : (cs : List Class) (file : FileContent) → AreOwn cs → AreOwn (with_class_of cs file)
-with_one cs OtherVersion own = own
-with_one cs NoClassFile own = own
-with_one cs MoreThanProfile own = own
-with_one cs (Holds c) own = by_test (is_reserved c.name) (has_class cs c.name) refl refl
-  where
-    by_test : (a b : Bool) → is_reserved c.name ≡ a → has_class cs c.name ≡ b → AreOwn (if a || b then cs else cs ++ c ∷ [])
-    by_test true b e k = own
-    by_test false true e k = own
-    by_test false false e k = one_more cs c own e k
+  with_front : (front : List Class) (c : Class) → AreOwn front → AreOwn (with_class_more library front c)
+  with_front front c own = by_test (has_class (system_with library) c.name) (has_class front c.name) refl refl
+    where
+      by_test :
+          (a b : Bool) → has_class (system_with library) c.name ≡ a → has_class front c.name ≡ b → AreOwn (if a || b then front else front ++ c ∷ [])
+      by_test true b e k = own
+      by_test false true e k = own
+      by_test false false e k = one_more front c own e k
 
-all_own : (cs : List Class) (files : List FileContent) → AreOwn cs → AreOwn (joined_all cs files)
-all_own cs [] own = own
-all_own cs (file ∷ files) own = all_own (with_class_of cs file) files (with_one cs file own)
+  all_front : (front classes : List Class) → AreOwn front → AreOwn (front_of library front classes)
+  all_front front [] own = own
+  all_front front (c ∷ classes) own = all_front (with_class_more library front c) classes (with_front front c own)
+
+  with_one : (cs : List Class) (file : FileContent) → AreOwn cs → AreOwn (with_class_of cs file)
+  with_one cs OtherVersion own = own
+  with_one cs NoClassFile own = own
+  with_one cs MoreThanProfile own = own
+  with_one cs (Holds c) own = by_test (is_reserved c.name) (has_class cs c.name) refl refl
+    where
+      by_test : (a b : Bool) → is_reserved c.name ≡ a → has_class cs c.name ≡ b → AreOwn (if a || b then cs else cs ++ c ∷ [])
+      by_test true b e k = own
+      by_test false true e k = own
+      by_test false false e k = one_more cs c own (not_of_system (system_with library) c.name (system_reserved library) e) k
+
+  all_own : (cs : List Class) (files : List FileContent) → AreOwn cs → AreOwn (joined_all cs files)
+  all_own cs [] own = own
+  all_own cs (file ∷ files) own = all_own (with_class_of cs file) files (with_one cs file own)
 
 -- ---- the system's, computed
 
@@ -110,21 +124,10 @@ differ_once (c ∷ cs) e =
     let parts = both (not (has_class cs c.name)) (differ cs) e in
     (not_among cs c.name (is_false (has_class cs c.name) parts.0), differ_once cs parts.1)
 
-system_once : AreOnce system_classes
+system_once : (library : List Class) → AreOnce (system_with library)
 unfolding differ
-system_once = differ_once system_classes refl
-
-each_reserved : (cs : List Class) → list_all (λ (c : Class). is_reserved c.name) cs ≡ true → (c : Class) → Contains cs c → is_reserved c.name ≡ true
-each_reserved [] e c h = absurd (none c h)
-each_reserved (x ∷ cs) e c h =
-    let parts = both (is_reserved x.name) (list_all (λ (c : Class). is_reserved c.name) cs) e in
-    elim (split x cs c h) [
-      | inl is ↦ subst (λ (y : Class). is_reserved y.name ≡ true) is parts.0
-      | inr k ↦ each_reserved cs parts.1 c k
-    ]
-
-system_reserved : (c : Class) → Contains system_classes c → is_reserved c.name ≡ true
-system_reserved = each_reserved system_classes refl
+system_once [] = differ_once (system_with []) refl
+system_once (c ∷ library) = differ_once (system_with (c ∷ library)) refl
 
 -- ---- both
 
@@ -159,13 +162,28 @@ own_append (x ∷ xs) ys own more apart = (
   own_append xs ys own.1 more (λ z y h k. apart z y (later x xs z h) k),
 )
 
-pub names_differ : (contents : List FileContent) → HaveOwnNames (world_of (with_library []) contents)
-names_differ contents =
-    let own = all_own [] contents no_classes in
-    own_append (map (loaded true) system_classes) (map (loaded false) (classes_in (with_library []) contents)) (loaded_own true system_classes system_once)
-    (loaded_own false (classes_in (with_library []) contents) own.once)
+-- a class stands under its name
+has_itself : (cs : List Class) (c : Class) → Contains cs c → has_class cs c.name ≡ true
+has_itself [] c h = absurd (none c h)
+has_itself (x ∷ cs) c h =
+    elim (split x cs c h) [
+      | inl is ↦
+          ap (λ (b : Bool). b || has_class cs c.name) ((bytes_eq-Decides x.name c.name).1 (ap (λ (y : Class). y.name) is))
+      | inr k ↦ behind (bytes_eq x.name c.name) (has_itself cs c k)
+    ]
+  where
+    behind : (b : Bool) → has_class cs c.name ≡ true → (b || has_class cs c.name) ≡ true
+    behind true e = refl
+    behind false e = e
+
+pub names_differ : (library : List Class) (contents : List FileContent) → HaveOwnNames (world_of (with_library library) contents)
+names_differ library contents =
+    let own = all_own library (with_library library).front contents (all_front library [] library (no_classes library)) in
+    own_append (map (loaded true) (system_with library)) (map (loaded false) (classes_in (with_library library) contents))
+    (loaded_own true (system_with library) (system_once library)) (loaded_own false (classes_in (with_library library) contents) own.once)
     (λ x y h k same.
-    let c = in_loaded true system_classes x h in
-    let d = in_loaded false (classes_in (with_library []) contents) y k in
-    let same_name : d.0.name ≡ c.0.name = ap (λ (l : Loaded). l.class.name) d.2 ∙ same ∙ ap (λ (l : Loaded). l.class.name) (sym c.2) in
-    clash (sym (system_reserved c.0 c.1) ∙ ap is_reserved (sym same_name) ∙ own.free d.0 d.1))
+    let c = in_loaded true (system_with library) x h in
+    let d = in_loaded false (classes_in (with_library library) contents) y k in
+    let same_name : c.0.name ≡ d.0.name =
+    ap (λ (l : Loaded). l.class.name) c.2 ∙ sym same ∙ ap (λ (l : Loaded). l.class.name) (sym d.2) in
+    clash (sym (has_itself (system_with library) c.0 c.1) ∙ ap (has_class (system_with library)) same_name ∙ own.free d.0 d.1))

@@ -22,11 +22,11 @@ known world linked site = record { world = world; linked = linked; site = site }
 abbrev pub known_at : Current → Linked → Known
 known_at current linked = known current.classes.now.world linked current.site
 
--- It is known of the classes that the machine knows, at the method that it runs. There are at most 1,057 classes (own): the system's 33
--- and those of 1,024 files.
+-- It is known of the classes that the machine knows, at the method that it runs. There are at most 2,083 classes (own): the system's
+-- 35, those of 1,024 files of a library, and those of 1,024 of a guest.
 pub record IsKnown (k : Known) (c : Context) : Type 0 where
   pub world : c.program.world ≡ k.world
   pub guests : IsGuestsWorld k.world
-  pub few : length k.world ≤ 1057
+  pub few : length k.world ≤ 2083
   pub linked : IsLinked k.world k.linked
   pub site : seen_site k.world k.site ≡ Some c.frame.method.site

@@ -277,4 +277,4 @@ module _ (index next : ℕ) (k : Known) (here : Place) (texts : List (List ℕ))
   cast_raises answer does is =
       raised (asks cast_step index) texts next here c addresses done below h.executes class_cast 10
       (done_same (c.memory, Raises class_cast) done (subst (λ (b : Bool). cast_if c b ≡ Ok done) is does))
-      (subst (λ (w : World). HasNumber w class_cast 10) (sym (h.known.world ∙ h.known.guests.1)) (system_numbers h.known.guests.0).class_cast)
+      (subst (λ (w : World). HasNumber w class_cast 10) (sym (h.known.world ∙ h.known.guests.world_is)) (system_numbers h.known.guests.given h.known.guests.contents).class_cast)

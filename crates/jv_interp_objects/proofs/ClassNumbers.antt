@@ -2,6 +2,7 @@
 use Rattle.std.proofs.Common.{◌≡◌, ℕ, zero, suc, Bool, true, false, cond, ◌||◌, nat_le, List, [], ◌∷◌, Option, Some, refl, sym, ap, subst, ◌∙◌, arith, slice_get}
 use Rattle.std.specs.Prelude.{codes}
 use Rattle.std.specs.Str.{bytes_eq}
+use Rattle.jv_class.specs.Class.{Class}
 use Rattle.jv_meaning_world.specs.FileContent.{FileContent}
 use Rattle.jv_meaning_world.specs.Library.{with_library}
 use Rattle.jv_meaning_world.specs.World.{Loaded, World, class_named, world_of}
@@ -66,24 +67,28 @@ module _ (world : World) (name other : List ℕ) (n k : ℕ) (h : HasNumber worl
 
 -- ---- what is above arrays stands first
 
-cloneable_first : (contents : List FileContent) → HasNumber (world_of (with_library []) contents) (codes "java/lang/Cloneable") 0
-cloneable_first contents = record { l = _; named = refl; at = refl }
+cloneable_first : (library : List Class) (contents : List FileContent) → HasNumber (world_of (with_library library) contents) (codes "java/lang/Cloneable") 0
+cloneable_first [] contents = record { l = _; named = refl; at = refl }
+cloneable_first (c ∷ library) contents = record { l = _; named = refl; at = refl }
 
-serializable_second : (contents : List FileContent) → HasNumber (world_of (with_library []) contents) (codes "java/io/Serializable") 1
-serializable_second contents = record { l = _; named = refl; at = refl }
+serializable_second :
+    (library : List Class) (contents : List FileContent) → HasNumber (world_of (with_library library) contents) (codes "java/io/Serializable") 1
+serializable_second [] contents = record { l = _; named = refl; at = refl }
+serializable_second (c ∷ library) contents = record { l = _; named = refl; at = refl }
 
-object_third : (contents : List FileContent) → HasNumber (world_of (with_library []) contents) (codes "java/lang/Object") 2
-object_third contents = record { l = _; named = refl; at = refl }
+object_third : (library : List Class) (contents : List FileContent) → HasNumber (world_of (with_library library) contents) (codes "java/lang/Object") 2
+object_third [] contents = record { l = _; named = refl; at = refl }
+object_third (c ∷ library) contents = record { l = _; named = refl; at = refl }
 
 module _ (world : World) (guests : IsGuestsWorld world) (numbers : IsNumbered world) (name : List ℕ) where
   cloneable : HasNumber world (codes "java/lang/Cloneable") 0
-  cloneable = subst (λ (w : World). HasNumber w (codes "java/lang/Cloneable") 0) (sym guests.1) (cloneable_first guests.0)
+  cloneable = subst (λ (w : World). HasNumber w (codes "java/lang/Cloneable") 0) (sym guests.world_is) (cloneable_first guests.given guests.contents)
 
   serializable : HasNumber world (codes "java/io/Serializable") 1
-  serializable = subst (λ (w : World). HasNumber w (codes "java/io/Serializable") 1) (sym guests.1) (serializable_second guests.0)
+  serializable = subst (λ (w : World). HasNumber w (codes "java/io/Serializable") 1) (sym guests.world_is) (serializable_second guests.given guests.contents)
 
   object : HasNumber world (codes "java/lang/Object") 2
-  object = subst (λ (w : World). HasNumber w (codes "java/lang/Object") 2) (sym guests.1) (object_third guests.0)
+  object = subst (λ (w : World). HasNumber w (codes "java/lang/Object") 2) (sym guests.world_is) (object_third guests.given guests.contents)
 
   beyond : (n : ℕ) → nat_le (suc (suc (suc n))) 2 ≡ false
   beyond n = grind (arith, common_steps)

@@ -94,7 +94,7 @@ module _ (slots next : ℕ) (here : Place) (texts : List (List ℕ)) (c : Contex
       by_reference Null does on =
           raised (λ c. load_component c test) texts next here c addresses done below h.executes null_pointer 15
           (done_same (c.memory, Raises null_pointer) done does)
-          (subst (λ (w : World). HasNumber w null_pointer 15) (sym h.guests.1) (system_numbers h.guests.0).null_pointer)
+          (subst (λ (w : World). HasNumber w null_pointer 15) (sym h.guests.world_is) (system_numbers h.guests.given h.guests.contents).null_pointer)
       by_reference (Reference id) does on =
           let r = reference_word addresses id array_word _ second.under on in
           absurd (not_zero addresses id array_word h.executes.memory.objects.are r.0 zero_is)
@@ -149,7 +149,7 @@ module _ (slots next : ℕ) (here : Place) (texts : List (List ℕ)) (c : Contex
       let none = index_outside index_word i.values t.index index_is outside in
       raised (λ c. load_component c test) texts next here c addresses done below h.executes array_index 17
       (done_same (c.memory, Raises array_index) done (sym (ap (load_at c t.rest) none) ∙ i.does))
-      (subst (λ (w : World). HasNumber w array_index 17) (sym h.guests.1) (system_numbers h.guests.0).array_index)
+      (subst (λ (w : World). HasNumber w array_index 17) (sym h.guests.world_is) (system_numbers h.guests.given h.guests.contents).array_index)
 
   -- ---- a component
 

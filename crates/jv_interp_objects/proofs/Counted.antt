@@ -110,7 +110,7 @@ module _ (word slots next : ℕ) (here : Place) (texts : List (List ℕ)) (c : C
       raises_in (array_of components) texts next here c addresses done below h.executes negative_size 14
       (done_same (c.memory, Raises negative_size) done
       (sym (ap (λ (n : ℤ). make_array c components n t.rest) (count_is ∙ negative_count count negative fits)) ∙ t.does))
-      (subst (λ (w : World). HasNumber w negative_size 14) (sym h.guests.1) (system_numbers h.guests.0).negative_size)
+      (subst (λ (w : World). HasNumber w negative_size 14) (sym h.guests.world_is) (system_numbers h.guests.given h.guests.contents).negative_size)
 
   -- ---- an array
 

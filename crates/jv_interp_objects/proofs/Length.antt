@@ -79,7 +79,7 @@ module _ (next : ℕ) (here : Place) (texts : List (List ℕ)) (c : Context) (ad
       by_reference Null does on =
           raised array_length texts next here c addresses done below h.executes null_pointer 15
           (done_same (c.memory, Raises null_pointer) done does)
-          (subst (λ (w : World). HasNumber w null_pointer 15) (sym h.guests.1) (system_numbers h.guests.0).null_pointer)
+          (subst (λ (w : World). HasNumber w null_pointer 15) (sym h.guests.world_is) (system_numbers h.guests.given h.guests.contents).null_pointer)
       by_reference (Reference id) does on =
           let r = reference_word addresses id array_word _ first.under on in
           absurd (not_zero addresses id array_word h.executes.memory.objects.are r.0 zero_is)

@@ -156,7 +156,7 @@ module _ (number : ℕ) (text : List ℕ) (held : Held) (before : Blocks) (texts
 
   holds : (m : Making) → HoldsChars program.world m.l
   holds m =
-      subst (λ (w : World). class_named w string_name ≡ Some m.l → HoldsChars w m.l) (sym h.guests.1) (holds_chars h.guests.0 m.l) m.named
+      subst (λ (w : World). class_named w string_name ≡ Some m.l → HoldsChars w m.l) (sym h.guests.world_is) (holds_chars h.guests.given h.guests.contents m.l) m.named
 
   one_word : (m : Making) → object_words program.world m.l ≡ 1
   one_word m =
@@ -213,7 +213,7 @@ module _ (number : ℕ) (text : List ℕ) (held : Held) (before : Blocks) (texts
 
     -- the String's class
     string_number : HasNumber program.world string_name 3
-    string_number = subst (λ (w : World). HasNumber w string_name 3) (sym h.guests.1) (system_numbers h.guests.0).string
+    string_number = subst (λ (w : World). HasNumber w string_name 3) (sym h.guests.world_is) (system_numbers h.guests.given h.guests.contents).string
 
     one_class : (a b : Loaded) → Some a ≡ Some b → a ≡ b
     one_class a b e = cc

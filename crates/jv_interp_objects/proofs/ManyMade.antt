@@ -152,7 +152,7 @@ module _ (word slots dimensions next : ℕ) (here : Place) (texts : List (List �
       raises_in (arrays_of dimensions components) texts next here c addresses done below h.executes negative_size 14
       (done_same (c.memory, Raises negative_size) done
       (sym (ap (λ (b : Bool). make_arrays_if c components t.values t.rest b) there) ∙ t.does))
-      (subst (λ (w : World). HasNumber w negative_size 14) (sym h.guests.1) (system_numbers h.guests.0).negative_size)
+      (subst (λ (w : World). HasNumber w negative_size 14) (sym h.guests.world_is) (system_numbers h.guests.given h.guests.contents).negative_size)
 
   -- ---- none
 

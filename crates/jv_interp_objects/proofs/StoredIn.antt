@@ -186,7 +186,7 @@ module _ (slots next : ℕ) (here : Place) (texts : List (List ℕ)) (c : Contex
         by_reference Null does on =
             raised_in (λ c. store_component c kind) texts next here c addresses done below h.executes null_pointer 15
             (done_same (c.memory, Raises null_pointer) done does)
-            (subst (λ (w : World). HasNumber w null_pointer 15) (sym h.guests.1) (system_numbers h.guests.0).null_pointer)
+            (subst (λ (w : World). HasNumber w null_pointer 15) (sym h.guests.world_is) (system_numbers h.guests.given h.guests.contents).null_pointer)
         by_reference (Reference id) does on =
             let r = reference_word addresses id address _ third.under on in
             absurd (not_zero addresses id address h.executes.memory.objects.are r.0 zero_is)
@@ -248,7 +248,7 @@ module _ (slots next : ℕ) (here : Place) (texts : List (List ℕ)) (c : Contex
         raised_in (λ c. store_component c kind) texts next here c addresses done below h.executes array_index 17
         (done_same (c.memory, Raises array_index) done
         (sym (ap (store_at c i.id (i.of.components, i.of.values) t.index t.value t.rest) none) ∙ i.of.does))
-        (subst (λ (w : World). HasNumber w array_index 17) (sym h.guests.1) (system_numbers h.guests.0).array_index)
+        (subst (λ (w : World). HasNumber w array_index 17) (sym h.guests.world_is) (system_numbers h.guests.given h.guests.contents).array_index)
 
     -- ---- what is stored
 

@@ -76,7 +76,8 @@ module _ (world : World) (next : ℕ) (here : Place) (texts : List (List ℕ)) (
       → DidIn here.blocks texts here (effects.Raises number) c addresses done below
   raises class number is numbered =
       raises_in part texts next here c addresses done below h.executes class number is
-      (subst (λ (w : World). HasNumber w class number) (sym (h.world_is ∙ h.guests.1)) (numbered (world_of (with_library []) h.guests.0) (system_numbers h.guests.0)))
+      (subst (λ (w : World). HasNumber w class number) (sym (h.world_is ∙ h.guests.world_is))
+      (numbered (world_of (with_library h.guests.given) h.guests.contents) (system_numbers h.guests.given h.guests.contents)))
 
   pub null_raises : address ≡ 0 → DidIn here.blocks texts here (effects.Raises 15) c addresses done below
   null_raises zero_is =

@@ -88,7 +88,7 @@ module _ (next : ℕ) (here : Place) (texts : List (List ℕ)) (c : Context) (ad
       raised part texts next here c addresses done below h.executes null_pointer 15
       (done_same (c.memory, Raises null_pointer) done
       (subst (λ (v : Value). throw_value c v ≡ Ok done) (top.null zero_is) it.does))
-      (subst (λ (w : World). HasNumber w null_pointer 15) (sym h.guests.1) (system_numbers h.guests.0).null_pointer)
+      (subst (λ (w : World). HasNumber w null_pointer 15) (sym h.guests.world_is) (system_numbers h.guests.given h.guests.contents).null_pointer)
 
   pub object_thrown :
       (get_or here.words (here.at.top - 1) 0 ≡ 0 → ⊥)

@@ -11,12 +11,12 @@ use Rattle.jv_interp_heap.specs.ObjectsInBlocks.{AreLoadable}
 use Rattle.jv_interp_heap.specs.SystemNumbers.{IsGuestsWorld}
 use Rattle.jv_interp_control.specs.Moves.{AreVerified}
 
--- These are its classes, at most 1,057 of them (own): the system's 33 and those of 1,024 files. The machine knows their code and their
--- texts, and of each class it is known whether it was verified with all above it.
+-- These are its classes, at most 2,083 of them (own): the system's 35, those of 1,024 files of a library, and those of 1,024 of a guest.
+-- The machine knows their code and their texts, and of each class it is known whether it was verified with all above it.
 pub record IsGuest (world : World) (verified : List Bool) (program : Program) : Type 0 where
   pub world_is : program.world ≡ world
   pub guests : IsGuestsWorld program.world
-  pub few : length world ≤ 1057
+  pub few : length world ≤ 2083
   pub finds : FindsInstructions program.instructions
   pub units : AreUnits program.units
   pub are : AreVerified program verified

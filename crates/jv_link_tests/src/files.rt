@@ -9,13 +9,14 @@ use jv_asm_builder::{ClassBuilder, ClassFlags, FieldFlags, MethodFlags, Op};
 use std::alloc::Global;
 
 /// Access flags (JVMS tables 4.1-B, 4.5-A, 4.6-A) by name; `package` is none.
-static FLAGS: [(&str, u16); 8] = [
+static FLAGS: [(&str, u16); 9] = [
     ("package", 0),
     ("public", 0x0001),
     ("private", 0x0002),
     ("protected", 0x0004),
     ("static", 0x0008),
     ("final", 0x0010),
+    ("super", 0x0020),
     ("interface", 0x0200),
     ("abstract", 0x0400),
 ];

@@ -86,7 +86,10 @@ fn wrong_of_classes<'r>(
 }
 
 /// The files as slices.
-fn slices_of<'f>(alloc: Global, files: &'f [Vec<u8>]) -> Result<Vec<&'f [u8]>, AllocError> {
+pub(crate) fn slices_of<'f>(
+    alloc: Global,
+    files: &'f [Vec<u8>],
+) -> Result<Vec<&'f [u8]>, AllocError> {
     let mut slices = Vec::new(alloc);
     for file in files {
         slices.push(file.as_slice())?;

@@ -19,6 +19,8 @@ mod kept;
 #[cfg(test)]
 mod layout;
 #[cfg(test)]
+mod library;
+#[cfg(test)]
 mod load;
 #[cfg(test)]
 mod loaded_class;

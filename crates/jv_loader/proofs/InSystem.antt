@@ -1,27 +1,20 @@
 -- The system's classes, file by file.
-use Rattle.std.proofs.Common.{arith, ◌≤◌, ◌≡◌, ℕ, zero, suc, ◌+◌, Bool, true, false, ◌||◌, ◌&&◌, List, [], ◌∷◌, ◌++◌, length, map, take, cond, inl, inr, Some, None, refl, sym, ap, ◌∙◌, subst, append_assoc, append-nil}
-use Rattle.std.specs.Prelude.{IsTrue, not, slice_get, position}
+use Rattle.std.proofs.Common.{◌≡◌, ℕ, zero, suc, ◌+◌, Bool, true, false, ◌||◌, ◌&&◌, List, [], ◌∷◌, ◌++◌, map, cond, inl, inr, Some, None, refl, sym, ap, ◌∙◌, subst}
+use Rattle.std.specs.Prelude.{IsTrue, is_some, not, slice_get, position}
 use Rattle.std.specs.List.{list_any, list_all, position_from}
 use Rattle.std.specs.Str.{bytes_eq}
 use Rattle.std.proofs.lemmas.Bool.{and_parts}
 use Rattle.std.proofs.lemmas.Iterator.Adapters.{position_from-zero}
 use Rattle.jv_class.specs.Class.{Class}
 use Rattle.jv_meaning_world.specs.FileContent.{FileContent, IsContent, AreContents}
-use Rattle.jv_meaning_world.specs.declared.content.Content.TheVariants.{Holds}
-use Rattle.jv_meaning_world.specs.System.Classes.{classes_with_files, system_classes, system_contents, system_bytes}
-use Rattle.jv_meaning_world.specs.Library.{with_library}
 use Rattle.std.specs.Prelude.{◌⊎◌}
 use Rattle.std.specs.List.{Contains}
 use Rattle.std.proofs.lemmas.List.Elements.{Contains-append_cases}
 use Rattle.jv_meaning_world.specs.Above.{super_names}
 use Rattle.jv_meaning_world.specs.Laws.Above.{SystemStandsAlone}
 use Rattle.jv_meaning_world.proofs.Up.{none, first, later, single, found_super}
-use Rattle.jv_meaning_world.specs.System.Io.{io}
-use Rattle.std.proofs.lemmas.Grind.{common_steps}
-use Rattle.std.proofs.lemmas.List.{map-append}
-use Rattle.jv_classes.proofs.Numbers.{take_more}
+use Rattle.jv_meaning_world.specs.Library.{system_with, with_library}
 use Rattle.jv_meaning_world.specs.World.{Loaded, loaded, has_class, class_named, classes_in, world_of}
-use Rattle.jv_meaning_world.specs.Numbers.{number_named}
 
 -- ---- nothing has a name
 
@@ -34,46 +27,40 @@ module _ {X : Type 0} (test : X → Bool) where
       by_test true t e again = absurd cc
       by_test false t e again = (rw t refl) ∙ again e
 
+  found_from : (i : ℕ) (xs : List X) → is_some (position_from test i xs) ≡ list_any test xs
+  found_from i [] = refl
+  found_from i (x ∷ xs) = by_test (test x) (found_from (i + 1) xs)
+    where
+      by_test : (b : Bool) → is_some (position_from test (i + 1) xs) ≡ list_any test xs → is_some (cond b (Some i) (position_from test (i + 1) xs)) ≡ (b || list_any test xs)
+      by_test true again = refl
+      by_test false again = again
+
+  pub is_found : (xs : List X) → is_some (position test xs) ≡ list_any test xs
+  is_found xs = ap is_some (position_from-zero test xs) ∙ found_from 0 xs
+
   pub no_position : (xs : List X) → list_any test xs ≡ false → position test xs ≡ None
   no_position xs e = position_from-zero test xs ∙ none_from 0 xs e
 
-pub unnamed : (by_system : Bool) (classes : List Class) (name : List ℕ) → has_class classes name ≡ false → number_named (map (loaded by_system) classes) name ≡ None
-unnamed by_system classes name e = no_position (λ l. bytes_eq l.class.name name) (map (loaded by_system) classes) (any_mapped classes ∙ e)
-  where
-    any_mapped : (cs : List Class) → list_any (λ (l : Loaded). bytes_eq l.class.name name) (map (loaded by_system) cs) ≡ has_class cs name
-    any_mapped [] = refl
-    any_mapped (c ∷ cs) = ap (λ b. bytes_eq c.name name || b) (any_mapped cs)
+pub any_named : (by_system : Bool) (cs : List Class) (name : List ℕ) → list_any (λ (l : Loaded). bytes_eq l.class.name name) (map (loaded by_system) cs) ≡ has_class cs name
+any_named by_system [] name = refl
+any_named by_system (c ∷ cs) name = ap (λ b. bytes_eq c.name name || b) (any_named by_system cs name)
 
 -- ---- names that differ, computed
 
-unlike_from : List Class → List Class → Bool
+unfoldable pub unlike_from : List Class → List Class → Bool
 unlike_from earlier [] = true
 unlike_from earlier (c ∷ more) = not (has_class earlier c.name) && unlike_from (earlier ++ c ∷ []) more
 
-new_name : (earlier classes : List Class) (k : ℕ) (c : Class) → IsTrue (unlike_from earlier classes) → slice_get classes k ≡ Some c → has_class (earlier ++ take k classes) c.name ≡ false
+pub is_unlike : (earlier : List Class) (c : Class) (more : List Class) → IsTrue (unlike_from earlier (c ∷ more))
+    → (has_class earlier c.name ≡ false) × IsTrue (unlike_from (earlier ++ c ∷ []) more)
 unfolding unlike_from
-new_name earlier [] k c t e = absurd (past k e)
+is_unlike earlier c more h =
+    let parts = and_parts (not (has_class earlier c.name)) (unlike_from (earlier ++ c ∷ []) more) h in
+    (turned (has_class earlier c.name) parts.0, parts.1)
   where
-    past : (j : ℕ) → slice_get [] j ≡ Some c → ⊥
-    past zero e = absurd cc
-    past (suc j) e = absurd cc
-new_name earlier (x ∷ classes) zero c t e =
-    let parts = and_parts (not (has_class earlier x.name)) (unlike_from (earlier ++ x ∷ []) classes) t in
-    ap (λ cs. has_class cs c.name) (append-nil earlier) ∙ subst (λ (y : Class). has_class earlier y.name ≡ false) (same e) (turned (has_class earlier x.name) parts.0)
-  where
-    same : Some x ≡ Some c → x ≡ c
-    same e = cc
-
     turned : (b : Bool) → IsTrue (not b) → b ≡ false
     turned true h = absurd cc
     turned false h = refl
-new_name earlier (x ∷ classes) (suc k) c t e =
-    let parts = and_parts (not (has_class earlier x.name)) (unlike_from (earlier ++ x ∷ []) classes) t in
-    ap (λ cs. has_class cs c.name) (sym (append_assoc earlier (x ∷ []) (take k classes))) ∙ new_name (earlier ++ x ∷ []) classes k c parts.1 e
-
-pub system_name_is_new : (k : ℕ) (c : Class) → slice_get classes_with_files k ≡ Some c → number_named (map (loaded true) (take k classes_with_files)) c.name ≡ None
-unfolding unlike_from
-system_name_is_new k c e = unnamed true (take k classes_with_files) c.name (new_name [] classes_with_files k c refl e)
 
 -- ---- a file and what it holds
 
@@ -90,37 +77,6 @@ content_at (x ∷ bytes) (f ∷ contents) zero b h e = (f, refl, subst (λ y. Is
     same : Some x ≡ Some b → x ≡ b
     same e = cc
 content_at (x ∷ bytes) (f ∷ contents) (suc k) b h e = content_at bytes contents k b h.1 e
-
-pub class_at : (k : ℕ) (b : List ℕ) (bytes : List (List ℕ)) → AreContents bytes system_contents → slice_get bytes k ≡ Some b → (c : Class) ×
-    (slice_get classes_with_files k ≡ Some c) × IsContent b (Holds c)
-class_at k b bytes h e = let at = content_at bytes system_contents k b h e in of_mapped classes_with_files k at.0 at.1 at.2
-  where
-    of_mapped : (cs : List Class) (k : ℕ) (f : FileContent) → slice_get (map Holds cs) k ≡ Some f → IsContent b f → (c : Class) × (slice_get cs k ≡ Some c) × IsContent b (Holds c)
-    of_mapped [] zero f e h = absurd cc
-    of_mapped [] (suc k) f e h = absurd cc
-    of_mapped (c ∷ cs) zero f e h = (c, refl, subst (IsContent b) (sym (same e)) h)
-      where
-        same : Some (Holds c) ≡ Some f → Holds c ≡ f
-        same e = cc
-    of_mapped (c ∷ cs) (suc k) f e h = of_mapped cs k f e h
-
--- ---- the list
-
-pub system_more : (k : ℕ) (c : Class) → slice_get classes_with_files k ≡ Some c → map (loaded true) (take (k + 1) classes_with_files) ≡
-    map (loaded true) (take k classes_with_files) ++ loaded true c ∷ []
-system_more k c e = ap (map (loaded true)) (take_more classes_with_files k c e) ∙ map-append (loaded true) (take k classes_with_files) (c ∷ [])
-
-pub all_files : (k : ℕ) → length system_bytes ≤ k → map (loaded true) (take k classes_with_files) ≡ map (loaded true) classes_with_files
-all_files k h = ap (map (loaded true)) (take_all classes_with_files k (subst (λ n. n ≤ k) as_many h))
-  where
-    as_many : length system_bytes ≡ length classes_with_files
-    as_many = refl
-
-    take_all : (xs : List Class) (n : ℕ) → length xs ≤ n → take n xs ≡ xs
-    take_all xs n h = grind (arith, common_steps, h)
-
-pub io_is_new : number_named (map (loaded true) classes_with_files) io.name ≡ None
-io_is_new = unnamed true classes_with_files io.name refl
 
 -- ---- the direct supers of the system's classes are the system's
 
@@ -143,8 +99,13 @@ module _ {X : Type 0} where
       by_part here again (inl k) = subst (λ z. IsTrue (test z)) (single y x k) here
       by_part here again (inr k) = again k
 
-names_known : Class → Bool
-names_known c = list_all (has_class system_classes) (super_names c)
+names_known : List Class → Class → Bool
+names_known system c = list_all (has_class system) (super_names c)
+
+all_known : (library : List Class) → IsTrue (list_all (names_known (system_with library)) (system_with library))
+unfolding names_known
+all_known [] = refl
+all_known (first ∷ more) = refl
 
 named_in_system : (classes : List Class) (guests : List Loaded) (name : List ℕ) (s : Loaded) → IsTrue (has_class classes name) →
     class_named (map (loaded true) classes ++ guests) name ≡ Some s → IsTrue s.by_system
@@ -159,23 +120,26 @@ named_in_system (c ∷ classes) guests name s h e = by_test (bytes_eq c.name nam
     by_test true again h e = subst (λ (l : Loaded). IsTrue l.by_system) (same e) refl
     by_test false again h e = again h e
 
-pub of_system : (guests : List Class) (l : Loaded) → Contains (map (loaded true) system_classes ++ map (loaded false) guests) l → IsTrue l.by_system →
-    (c : Class) × Contains system_classes c × (loaded true c ≡ l)
-of_system guests l h t = by_part (Contains-append_cases (map (loaded true) system_classes) (map (loaded false) guests) l h)
+pub of_system : (library guests : List Class) (l : Loaded) → Contains (map (loaded true) (system_with library) ++ map (loaded false) guests) l → IsTrue l.by_system →
+    (c : Class) × Contains (system_with library) c × (loaded true c ≡ l)
+of_system library guests l h t = by_part (Contains-append_cases (map (loaded true) (system_with library)) (map (loaded false) guests) l h)
   where
     unlike : IsTrue false → ⊥
     unlike f = cc
 
-    by_part : Contains (map (loaded true) system_classes) l ⊎ Contains (map (loaded false) guests) l → (c : Class) × Contains system_classes c × (loaded true c ≡ l)
-    by_part (inl k) = in_mapped (loaded true) system_classes l k
+    by_part : Contains (map (loaded true) (system_with library)) l ⊎ Contains (map (loaded false) guests) l
+        → (c : Class) × Contains (system_with library) c × (loaded true c ≡ l)
+    by_part (inl k) = in_mapped (loaded true) (system_with library) l k
     by_part (inr k) = let found = in_mapped (loaded false) guests l k in absurd (unlike (subst (λ (m : Loaded). IsTrue m.by_system) (sym found.2) t))
 
-pub stands_alone : (files : List FileContent) → SystemStandsAlone (world_of (with_library []) files)
+pub stands_alone : (library : List Class) (files : List FileContent) → SystemStandsAlone (world_of (with_library library) files)
 unfolding names_known
-stands_alone files l s h t k =
-    let world = world_of (with_library []) files in
-    let known = of_system (classes_in (with_library []) files) l h t in
+stands_alone library files l s h t k =
+    let world = world_of (with_library library) files in
+    let system = system_with library in
+    let own = classes_in (with_library library) files in
+    let known = of_system library own l h t in
     let found = found_super world l.class s k in
-    let names = each_passes names_known system_classes known.0 refl known.1 in
-    let there = each_passes (has_class system_classes) (super_names known.0) found.0 names (subst (λ (m : Loaded). Contains (super_names m.class) found.0) (sym known.2) found.1) in
-    named_in_system system_classes (map (loaded false) (classes_in (with_library []) files)) found.0 s there found.2
+    let names = each_passes (names_known system) system known.0 (all_known library) known.1 in
+    let there = each_passes (has_class system) (super_names known.0) found.0 names (subst (λ (m : Loaded). Contains (super_names m.class) found.0) (sym known.2) found.1) in
+    named_in_system system (map (loaded false) own) found.0 s there found.2

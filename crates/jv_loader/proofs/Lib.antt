@@ -1,11 +1,17 @@
 pub mod Decided
+pub mod FirstVerdicts
 pub mod Fitting
 pub mod Standing
 pub mod Contents
+pub mod Giving
+pub mod Hosting
 pub mod InSystem
 pub mod Joining
+pub mod Borrowing
+pub mod Comparing
 pub mod NoLibrary
 pub mod Putting
+pub mod Refusing
 pub mod Searching
 pub mod Straightness
 pub mod Unlike

@@ -10,7 +10,7 @@ use Rattle.jv_meaning_world.specs.World.{World}
 use Rattle.jv_classes.specs.Inside.KeptNames.{text_of, texts_of}
 use Rattle.jv_loader.specs.Inside.Files.{ArePut, with_file, with_files, entry_of, entries_from}
 
-are_more : (bytes : List (List ℕ)) (contents : List FileContent) (b : List ℕ) (f : FileContent) → AreContents bytes contents → IsContent b f → AreContents (bytes ++ b ∷ []) (contents ++ f ∷ [])
+pub are_more : (bytes : List (List ℕ)) (contents : List FileContent) (b : List ℕ) (f : FileContent) → AreContents bytes contents → IsContent b f → AreContents (bytes ++ b ∷ []) (contents ++ f ∷ [])
 are_more [] [] b f h k = (k, tt)
 are_more [] (g ∷ contents) b f h k = absurd h
 are_more (x ∷ bytes) [] b f h k = absurd h

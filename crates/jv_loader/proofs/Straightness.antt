@@ -3,13 +3,13 @@ use Rattle.std.proofs.Common.{◌≡◌, ℕ, zero, suc, ◌+◌, ◌<◌, Bool,
 use Rattle.std.specs.Prelude.{IsTrue, IsFalse, if◌then◌else◌}
 use Rattle.std.specs.List.{Contains, find, list_all, list_any}
 use Rattle.std.specs.Str.{bytes_eq}
-use Rattle.std.proofs.lemmas.Bool.{ltb-true}
+use Rattle.std.proofs.lemmas.Bool.{ltb-true, or_left}
 use Rattle.jv_class.specs.Class.{Class}
 use Rattle.jv_meaning_world.specs.FileContent.{FileContent}
+use Rattle.jv_meaning_world.specs.Library.{char_sequence, comparable, system_with, with_library}
 use Rattle.jv_meaning_world.specs.System.Classes.{system_classes}
-use Rattle.jv_meaning_world.specs.Library.{with_library}
 use Rattle.jv_meaning_world.specs.System.Object.{object}
-use Rattle.jv_meaning_world.specs.World.{Loaded, World, loaded, class_named, classes_in, world_of}
+use Rattle.jv_meaning_world.specs.World.{Loaded, World, class_named, classes_in, world_of}
 use Rattle.jv_meaning_world.specs.Above.{super_names, supers_in, above, is_circular}
 use Rattle.jv_meaning_world.specs.Verdicts.{each_super, have_right_kind, can_name_supers, is_loadable_within, is_loadable}
 use Rattle.jv_meaning_world.specs.Laws.Above.{AboveByWays, LoadableByAll, IsWayUp, stands_itself}
@@ -19,7 +19,7 @@ use Rattle.jv_loader.proofs.InSystem.{each_passes, of_system, stands_alone}
 
 -- ---- what is found
 
-found_has : (name_of : Loaded → List ℕ) (world : World) (name : List ℕ) (s : Loaded) → find (λ l. bytes_eq (name_of l) name) world ≡ Some s → name_of s ≡ name
+pub found_has : (name_of : Loaded → List ℕ) (world : World) (name : List ℕ) (s : Loaded) → find (λ l. bytes_eq (name_of l) name) world ≡ Some s → name_of s ≡ name
 found_has name_of [] name s e = absurd cc
 found_has name_of (x ∷ world) name s e = by_test (bytes_eq (name_of x) name) refl (λ f. found_has name_of world name s f) e
   where
@@ -49,27 +49,28 @@ rank_from k (c ∷ more) name = if bytes_eq c.name name then k else rank_from (k
 -- java/lang/Object comes first, and each class behind its supers
 rank : List ℕ → ℕ
 unfolding rank_from
-rank name = rank_from 0 (object ∷ system_classes) name
+rank name = rank_from 0 (object ∷ comparable ∷ char_sequence ∷ system_classes) name
 
 below_it : Class → Bool
 below_it c = list_all (λ name. nat_lt (rank name) (rank c.name)) (super_names c)
 
-all_below : IsTrue (list_all below_it system_classes)
+all_below : (library : List Class) → IsTrue (list_all below_it (system_with library))
 unfolding rank_from rank below_it
-all_below = refl
+all_below [] = refl
+all_below (first ∷ more) = refl
 
 -- ---- the ways up from a class of the system
 
-module _ (files : List FileContent) where
+module _ (library : List Class) (files : List FileContent) where
   abbrev world : World
-  world = world_of (with_library []) files
+  world = world_of (with_library library) files
 
   super_is_below : (l s : Loaded) → Contains world l → IsTrue l.by_system → Contains (supers_in world l.class) s → rank s.class.name < rank l.class.name
   unfolding below_it
   super_is_below l s h t k =
-      let known = of_system (classes_in (with_library []) files) l h t in
+      let known = of_system library (classes_in (with_library library) files) l h t in
       let found = found_super world l.class s k in
-      let lower = each_passes below_it system_classes known.0 all_below known.1 in
+      let lower = each_passes below_it (system_with library) known.0 (all_below library) known.1 in
       let here = each_passes (λ name. nat_lt (rank name) (rank known.0.name)) (super_names known.0) found.0 lower
       (subst (λ (m : Loaded). Contains (super_names m.class) found.0) (sym known.2) found.1) in
       subst (λ n. n < rank l.class.name) (ap rank (sym (is_named found.0 found.2)))
@@ -83,7 +84,7 @@ module _ (files : List FileContent) where
   way_is_below (by ∷ more) l s h t way =
       let found = found_super world l.class by way.0 in
       let one = super_is_below l by h t way.0 in
-      let rest = way_is_below more by s (named_stands world found.0 by found.2) (stands_alone files l by h t way.0) way.1 in
+      let rest = way_is_below more by s (named_stands world found.0 by found.2) (stands_alone library files l by h t way.0) way.1 in
       omega (arith, one, rest)
 
   system_is_straight : AboveByWays → (l : Loaded) → Contains world l → IsTrue l.by_system → IsFalse (is_circular world l.class)
@@ -127,23 +128,27 @@ module _ (files : List FileContent) where
 
   loadable_is_straight : AboveByWays → LoadableByAll → (l : Loaded) → Contains world l → IsTrue (is_loadable world l) → IsStraight world l
   loadable_is_straight ways stand l h t =
-      let all = (stand world l (stands_alone files) h).0 t in
+      let all = (stand world l (stands_alone library files) h).0 t in
       record {
         itself = stands_straight ways l h all.0;
         above_it = λ s k. stands_straight ways s (above_stands ways l s k) (all.1 s k);
       }
 
-  object_is_found : class_named world (codes "java/lang/Object") ≡ Some (loaded true object)
-  object_is_found = refl
+  root_of : (library : List Class) (files : List FileContent) → (l : Loaded)
+      × (class_named (world_of (with_library library) files) (codes "java/lang/Object") ≡ Some l) × (l.by_system ≡ true)
+  root_of [] files = (_, refl, refl)
+  root_of (first ∷ more) files = (_, refl, refl)
 
-  object_is_loadable : (k : ℕ) → IsTrue (is_loadable_within world k (loaded true object))
-  object_is_loadable zero = refl
-  object_is_loadable (suc k) = refl
+  system_is_loadable : (l : Loaded) → l.by_system ≡ true → (k : ℕ) → IsTrue (is_loadable_within world k l)
+  system_is_loadable l e zero = e
+  system_is_loadable l e (suc k) = or_left l.by_system _ e
 
   pub are_straight : AboveByWays → LoadableByAll → AreStraight world
   are_straight ways stand = record {
     loadable = loadable_is_straight ways stand;
-    object = λ l e. subst (λ m. IsTrue (is_loadable world m)) (same (sym object_is_found ∙ e)) (object_is_loadable (length world));
+    object = λ l e.
+        let root = root_of library files in
+        subst (λ (m : Loaded). IsTrue (is_loadable world m)) (same (sym root.1 ∙ e)) (system_is_loadable root.0 root.2 (length world));
   }
     where
       same : {x y : Loaded} → Some x ≡ Some y → x ≡ y

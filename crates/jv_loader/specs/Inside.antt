@@ -1,6 +1,10 @@
 pub mod Table
 pub mod Files
 pub mod Finals
+pub mod Given
+pub mod Headers
+pub mod Library
 pub mod Reading
 pub mod Searches
 pub mod System
+pub mod Tables

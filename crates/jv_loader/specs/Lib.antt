@@ -1,3 +1,5 @@
+pub mod FirstVerdicts
 pub mod Inside
+pub mod LibraryFault
 pub mod Loading
 pub mod Straight

@@ -1,10 +1,12 @@
 //! A guest's classes, loaded.
 
-ghost use Rattle.std.specs.Prelude.{◌≡◌, ◌<◌, [], Some, IfOk, IfSome, length, slice_get};
+ghost use Rattle.std.specs.Prelude.{◌≡◌, ◌<◌, ◌≤◌, Some, IfOk, IfSome, length, slice_get};
 ghost use Rattle.jv_meaning_world.specs.LookUps.{lookup_field, lookup_method, is_subclass};
 ghost use Rattle.jv_meaning_world.specs.Numbers.{HoldsAtBoth, HoldsAtNumber, number_named, superclass_number};
 ghost use Rattle.jv_lookups.specs.Places.{IsFieldPlace, IsMethodPlace, IsFieldLookedUp, IsMethodLookedUp};
 ghost use Rattle.jv_lookups.specs.Defaults.{IsDefaultPlace, AreDefaultsOf};
+ghost use Rattle.jv_meaning_world.specs.Verdicts.{verdict_of_class};
+ghost use Rattle.jv_loader.specs.FirstVerdicts.{AreVerdictsOnFirst};
 ghost use Rattle.jv_loader.specs.Loading.{AreLoaded};
 ghost use Rattle.jv_loader.specs.Straight.{AreStraight};
 ghost use Rattle.jv_classes.specs.Inside.KeptNames.{texts_of};
@@ -15,12 +17,11 @@ use crate::entry::put_files;
 use crate::files::SystemFiles;
 use crate::out_of_memory::OutOfMemory;
 use crate::searches::searches_of;
-use crate::system::system_list;
-use crate::verdicts::verdicts_of;
+use crate::verdicts::{first_verdicts, verdict_on, verdicts_of};
 use jv_classes::{ClassTable, Text};
 use jv_lookups::{Defaults, Place, lookup_field, lookup_method, superinterface_defaults};
 use jv_meaning_world::{LoadVerdict, above_by_ways, loadable_by_all};
-use std::alloc::Global;
+use std::alloc::{AllocError, Global};
 use std::hash::RandomState;
 use std::marker::Model;
 
@@ -28,6 +29,7 @@ use std::marker::Model;
 /// at.
 pub struct Classes<'a> {
     table: ClassTable<'a>,
+    host: usize,
     verdicts: Vec<Option<LoadVerdict>>,
     searches: Vec<Vec<u16>>,
 }
@@ -39,7 +41,7 @@ impl<'a> Model for Classes<'a> {
 
     ghost use Rattle.jv_loader.specs.Inside.Searches.{AreSearches, lists_of};
 
-    ghost view = { λ c. record { world = c.table; verdicts = c.verdicts.items } };
+    ghost view = { λ c. record { world = c.table; host = c.host; verdicts = c.verdicts.items } };
 
     ghost use Rattle.jv_loader.specs.Straight.{AreStraight};
 
@@ -50,6 +52,7 @@ impl Drop for Classes<'_> {
     fn drop(self) {
         let Classes {
             table: _,
+            host: _,
             verdicts: _,
             searches: _,
         } = self;
@@ -69,8 +72,8 @@ fn are_straight(table: &ClassTable<'_>)
 }
 
 impl<'a> Classes<'a> {
-    /// Reads the files of a guest, and makes the table of their classes behind the system's; names are
-    /// hashed with the state.
+    /// Reads the files of a guest, and makes the table of their classes behind those that its host gives: the system's, and those of a
+    /// library that stand in front; names are hashed with the state.
     ///
     /// # Errors
     ///
@@ -81,9 +84,10 @@ impl<'a> Classes<'a> {
         system: &'a SystemFiles,
         files: &'a [&'a [u8]],
     ) -> Result<Classes<'a>, OutOfMemory>
-        ensures { IfOk result (λ classes. AreLoaded [] (texts_of files.now) classes) }
+        ensures { IfOk result (λ classes. AreLoaded system.now (texts_of files.now) classes) }
     {
-        let mut list = system_list(alloc, state, system)?;
+        let mut list = system.list(alloc, state)?;
+        let host = list.count();
         let entries = put_files(alloc, state, &mut list, files)?;
         let table = ClassTable::of(alloc, list)?;
         let verdicts = verdicts_of(alloc, state, &table, &entries)?;
@@ -91,6 +95,7 @@ impl<'a> Classes<'a> {
         are_straight(&table);
         Ok(Classes {
             table,
+            host,
             verdicts,
             searches,
         })
@@ -136,6 +141,13 @@ impl<'a> Classes<'a> {
         let _table = &self.table;
     }
 
+    /// How many classes the host gives: they have the numbers below.
+    pub fn host_count(&self) -> usize
+        ensures { result ≡ self.now.host }
+    {
+        self.host
+    }
+
     /// How many files there are.
     pub fn file_count(&self) -> usize
         ensures { result ≡ length self.now.verdicts }
@@ -150,6 +162,41 @@ impl<'a> Classes<'a> {
         ensures { slice_get self.now.verdicts file ≡ Some result }
     {
         self.verdicts[file]
+    }
+
+    /// What is wrong with the class with a number before its methods are looked at; `None` where these decide. Names are hashed with the
+    /// state.
+    ///
+    /// # Errors
+    ///
+    /// Where the host had no memory for what is known of finals and packages.
+    pub fn class_verdict(
+        &self,
+        alloc: Global,
+        state: RandomState,
+        number: usize,
+    ) -> Result<Option<LoadVerdict>, AllocError>
+        requires { number < length self.now.world }
+        ensures { IfOk result (λ why. HoldsAtNumber self.now.world number (λ l. why ≡ verdict_of_class self.now.world l)) }
+    {
+        verdict_on(alloc, state, &self.table, number)
+    }
+
+    /// The same of each of the first classes, so many, in time linear in all.
+    ///
+    /// # Errors
+    ///
+    /// Where the host had no memory for the verdicts, or for what is known of finals and packages.
+    pub fn first_verdicts(
+        &self,
+        alloc: Global,
+        state: RandomState,
+        count: usize,
+    ) -> Result<Vec<Option<LoadVerdict>>, AllocError>
+        requires { count ≤ length self.now.world }
+        ensures { IfOk result (λ verdicts. AreVerdictsOnFirst self.now.world count verdicts.items) }
+    {
+        first_verdicts(alloc, state, &self.table, count)
     }
 
     /// The classes that a search for a member from a class meets, in its order (JVMS 5.4.3.2); each number is kept in two bytes.

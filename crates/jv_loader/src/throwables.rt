@@ -18,12 +18,12 @@ use std::alloc::Global;
 
 /// What such classes differ in.
 pub(crate) struct ThrowableClass {
-    access_flags: u16,
-    name: &'static [u8],
-    super_name: &'static [u8],
+    pub(crate) access_flags: u16,
+    pub(crate) name: &'static [u8],
+    pub(crate) super_name: &'static [u8],
 }
 
-static TABLE: [ThrowableClass; 27] = [
+pub(crate) static TABLE: [ThrowableClass; 27] = [
     ThrowableClass {
         access_flags: CLASS,
         name: b"java/lang/Exception",

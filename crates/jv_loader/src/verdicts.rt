@@ -1,11 +1,12 @@
 //! The verdicts on a guest's files before their methods are looked at.
 
-ghost use Rattle.std.specs.Prelude.{◌≡◌, ◌<◌, false, IfOk, length, map};
+ghost use Rattle.std.specs.Prelude.{◌≡◌, ◌<◌, ◌≤◌, false, IfOk, length, map};
 ghost use Rattle.jv_meaning_world.specs.Above.{is_circular, superclasses};
 ghost use Rattle.jv_meaning_world.specs.Verdicts.{verdict_of_class, breaks_final};
 ghost use Rattle.jv_meaning_world.specs.Numbers.{HoldsAtNumber};
 ghost use Rattle.std.specs.List.{All};
 ghost use Rattle.jv_loader.specs.Inside.Files.{verdict_of_entry, IsPlace};
+ghost use Rattle.jv_loader.specs.FirstVerdicts.{AreVerdictsOnFirst};
 ghost use Rattle.jv_loader.specs.Inside.Finals.{AreTold, breaks_final_above};
 
 use crate::entry::Entry;
@@ -83,6 +84,38 @@ fn verdict_of(table: &ClassTable<'_>, finals: &mut Finals, number: usize) -> Opt
         return Some(LoadVerdict::FinalBroken);
     }
     None
+}
+
+/// What is wrong with a class before its methods are looked at.
+pub(crate) fn verdict_on(
+    alloc: Global,
+    state: RandomState,
+    table: &ClassTable<'_>,
+    number: usize,
+) -> Result<Option<LoadVerdict>, AllocError>
+    requires { number < length table.now }
+    ensures { IfOk result (λ verdict. HoldsAtNumber table.now number (λ l. verdict ≡ verdict_of_class table.now l)) }
+{
+    let mut finals = finals_of(alloc, state, table)?;
+    Ok(verdict_of(table, &mut finals, number))
+}
+
+/// What is wrong with each of the first classes, so many, before their methods are looked at.
+pub(crate) fn first_verdicts(
+    alloc: Global,
+    state: RandomState,
+    table: &ClassTable<'_>,
+    count: usize,
+) -> Result<Vec<Option<LoadVerdict>>, AllocError>
+    requires { count ≤ length table.now }
+    ensures { IfOk result (λ verdicts. AreVerdictsOnFirst table.now count verdicts.items) }
+{
+    let mut finals = finals_of(alloc, state, table)?;
+    let mut verdicts = Vec::new(alloc);
+    for number in 0..count {
+        verdicts.push(verdict_of(table, &mut finals, number))?;
+    }
+    Ok(verdicts)
 }
 
 /// The verdict on a file, where its entry is known.

@@ -1,5 +1,5 @@
--- A guest alone (own): what its own files, main class name, input, feeds and budget give on the machine, after some number of
--- steps; and what of its files is found before that (JVMS 4.10, 5.3).
+-- A guest alone (own): what its own files behind its host's library, its main class name, input, feeds and budget give on the machine,
+-- after some number of steps; and what of the files is found before that (JVMS 4.10, 5.3).
 use Rattle.std.specs.Prelude.{◌≡◌, ◌↔◌, ℕ, zero, suc, ◌==◌, if◌then◌else◌, List, [], ◌∷◌, ◌++◌, length, map, Option, Some, Ok, false, true, slice_get}
 use Rattle.std.specs.List.{All}
 use Rattle.jv_text.specs.Text.{Spells}

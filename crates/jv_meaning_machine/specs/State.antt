@@ -14,7 +14,7 @@ use Rattle.jv_meaning_machine.specs.Frames.{Frame}
 
 -- ---- what is known of the classes
 
--- the classes that the guest can name, the names of its own classes that were accepted, and what bytes of code and of texts
+-- the classes that the guest can name, the names of those of its loader that were accepted, and what bytes of code and of texts
 -- are: instructions (4.9) and units (4.4.7)
 pub record Program : Type 0 where
   pub world : World
@@ -22,7 +22,7 @@ pub record Program : Type 0 where
   pub instructions : List ℕ → Option (List Instruction)
   pub units : List ℕ → Option (List ℕ)
 
--- all of the system's are accepted
+-- all of the system's count as accepted
 abbrev pub is_class_accepted : Program → Loaded → Bool
 is_class_accepted program l = l.by_system || list_any (bytes_eq l.class.name) program.accepted
 

@@ -74,7 +74,8 @@ with_library library = record { system = system_with library; front = front_of l
 -- ---- what a library is
 
 -- A class of a library with the name of a class of the system's has its flags, supers and fields. It has no `<clinit>`, since all of the
--- system's are initialized from the start, and no methods where arrays are below the class, for which these would be found.
+-- system's are initialized from the start; and no methods where arrays are below the class, since calls on arrays find java/lang/Object's
+-- alone here (5.4.6).
 pub record Lends (class by : Class) : Type 0 where
   pub same : by ≡ with_methods_of by class
   pub initialized : IsNone (method_named by (codes "<clinit>") (codes "()V"))

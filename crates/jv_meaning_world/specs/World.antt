@@ -7,7 +7,7 @@ use Rattle.jv_class.specs.Class.{Class}
 use Rattle.jv_meaning_world.specs.FileContent.{FileContent}
 use Rattle.jv_meaning_world.specs.declared.content.Content.TheVariants.{Holds}
 
--- a class with its defining loader: the system's, or the guest's
+-- a class with its defining loader: the system's, or the guest's, which those in front of the guest's own have too (own)
 pub record Loaded : Type 0 where
   pub class : Class
   pub by_system : Bool
@@ -37,7 +37,7 @@ is_reserved name = starts_with nat_eq name (codes "java/") || starts_with nat_eq
 abbrev pub has_class : List Class → List ℕ → Bool
 has_class classes name = list_any (λ c. bytes_eq c.name name) classes
 
--- one file more: its class joins where its name is neither reserved nor taken by an earlier file (own)
+-- one file more: its class joins where its name is neither reserved nor taken by a class in front or by an earlier file (own)
 abbrev pub with_class_of : List Class → FileContent → List Class
 with_class_of classes (Holds class) =
     if is_reserved class.name || has_class classes class.name then classes else classes ++ class ∷ []

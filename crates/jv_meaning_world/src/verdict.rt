@@ -12,7 +12,7 @@ pub enum LoadVerdict {
     Unsupported,
     /// The class has a name that is the system's.
     Reserved,
-    /// The class has the name of an earlier file's class.
+    /// The class has the name of an earlier file's class, or of one that stands in front of the guest's own.
     Duplicate,
     /// The class is among its own superclasses and superinterfaces (JVMS 5.3.5).
     Circular,

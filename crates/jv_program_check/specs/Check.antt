@@ -1,5 +1,5 @@
 -- What the program says of the files of a guest (JVMS 4.10, 5.3.5).
-use Rattle.std.specs.Prelude.{◌≡◌, ℕ, ⊤, Bool, List, None, Some, string_bytes}
+use Rattle.std.specs.Prelude.{◌≡◌, ℕ, ⊤, Bool, List, [], None, Some, string_bytes}
 use Rattle.jv_meaning_world.specs.FileContent.{FileContent, AreContents}
 use Rattle.jv_meaning_typing.specs.declared.verdict.Verdict.{Verdict}
 use Rattle.jv_limits.specs.FileLimits.{first_file_refusal}
@@ -9,11 +9,11 @@ use Rattle.jv_program_base.specs.declared.failure.Failure.TheVariants.{Refused, 
 use Rattle.jv_program_base.specs.declared.outcome.Outcome.{Outcome}
 use Rattle.jv_program_check.specs.Text.{check_report, check_status}
 
--- the verdicts on the files of one guest, in their order
+-- the verdicts on the files of one guest, in their order, where there is no library
 pub record AreVerdictsOf (files : List (List ℕ)) (verdicts : List Verdict) : Type 0 where
   pub contents : List FileContent
   pub read : AreContents files contents
-  pub found : AreVerdicts contents verdicts
+  pub found : AreVerdicts [] contents verdicts
 
 -- The files are within the limits; the text has a line for each file, in JSON or not, nothing takes its place, and the status goes with
 -- the verdicts.

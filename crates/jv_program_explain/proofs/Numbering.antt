@@ -47,7 +47,7 @@ holds_one one other e = cc
 
 -- ---- the file at a place
 
-module _ (contents : List FileContent) (verdicts : List Verdict) (right : AreVerdicts contents verdicts) (k : ℕ) (f : FileContent) (v : Verdict)
+module _ (contents : List FileContent) (verdicts : List Verdict) (right : AreVerdicts [] contents verdicts) (k : ℕ) (f : FileContent) (v : Verdict)
     (at : slice_get contents k ≡ Some f) (judged : slice_get verdicts k ≡ Some v) where
   abbrev world : World
   world = world_of (with_library []) contents

@@ -68,7 +68,7 @@ none_yet links contents verdicts number e = record {
     number_at [] = omega (arith, e)
     number_at (f ∷ more) = omega (arith, e)
 
-module _ (files : List (List ℕ)) (contents : List FileContent) (are : AreContents files contents) (verified : Verified) (found : AreVerified contents verified) where
+module _ (files : List (List ℕ)) (contents : List FileContent) (are : AreContents files contents) (verified : Verified) (found : AreVerified [] contents verified) where
   module _ (links : Bool) (k : ℕ) (less : k < length files) (v : Verdict) (judged : slice_get verified.verdicts k ≡ Some v) (number : ℕ)
       (number_is : number ≡ number_behind (with_library []) (take k contents)) (world : World) (same : world ≡ verified.world) where
     here : (f : FileContent) × (slice_get contents k ≡ Some f)

@@ -38,7 +38,7 @@ pub record IsExplained (json links : Bool) (names files : List (List ℕ)) (outc
   pub contents : List FileContent
   pub read : AreContents files contents
   pub verdicts : List Verdict
-  pub right : AreVerdicts contents verdicts
+  pub right : AreVerdicts [] contents verdicts
   pub said : List (List ℕ)
   pub explained : AreExplained links contents verdicts said
   pub report : string_bytes outcome.report ≡ explain_report json names verdicts said

@@ -1,6 +1,6 @@
 //! What is said of the files of a guest.
 
-ghost use Rattle.std.specs.Prelude.{◌≡◌, IfOk, IsTrue, Option, Some, map, string_bytes};
+ghost use Rattle.std.specs.Prelude.{◌≡◌, [], IfOk, IsTrue, Option, Some, map, string_bytes};
 ghost use Rattle.jv_limits.specs.Bytes.{bytes_of};
 ghost use Rattle.jv_meaning_typing.specs.Judgement.{IsVerdictOfContent};
 ghost use Rattle.jv_meaning_world.specs.FileContent.{FileContent, IsContent};
@@ -58,7 +58,7 @@ pub(crate) fn said_of(
     verified: &Verified<'_>,
     files: &[&[u8]],
 ) -> Result<Vec<String>, AllocError>
-    requires { AreFilesOf (map bytes_of files.now) verified.now }
+    requires { AreFilesOf [] (map bytes_of files.now) verified.now }
     ensures { IfOk result (λ said. AreSaid links (map bytes_of files.now) verified.now (map string_bytes said.items)) }
 {
     let classes = verified.classes();

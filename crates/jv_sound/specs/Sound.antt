@@ -1,5 +1,5 @@
--- What soundness needs of a guest's program (JVMS 4.10, 5.3): all of it follows from the verdicts on its files and on the system's
--- classes.
+-- What soundness needs of a guest's program (JVMS 4.10, 5.3): all of it follows from the verdicts on its files and on the classes that its
+-- host gives.
 use Rattle.std.specs.Prelude.{◌≡◌, ⊤, ℕ, List, ◌++◌, map, Option, Some, None, IsSome, IsTrue, false, true}
 use Rattle.std.specs.List.{Contains, AllByRecursion}
 use Rattle.jv_text.specs.declared.descriptor.FieldTypeOf.{FieldTypeOf}

@@ -1,6 +1,6 @@
 pub mod EntryWords
 pub mod Environments
-pub mod InSystem
+pub mod Hosts
 pub mod Judging
 pub mod Numbered
 pub mod Parts

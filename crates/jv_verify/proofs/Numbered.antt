@@ -29,7 +29,7 @@ joined_parts classes [] (suc k) = refl
 joined_parts classes (x ∷ files) zero = refl
 joined_parts classes (x ∷ files) (suc k) = joined_parts (with_class_of classes x) files k
 
-abbrev Grows : List Class → List Class → Type 0
+abbrev pub Grows : List Class → List Class → Type 0
 Grows before after = (more : List Class) × (after ≡ before ++ more)
 
 one_grows : (classes : List Class) (f : FileContent) → Grows classes (with_class_of classes f)
@@ -42,14 +42,14 @@ one_grows classes (Holds class) = by_test (is_reserved class.name || has_class c
     by_test true = ([], sym (append-nil classes))
     by_test false = (class ∷ [], refl)
 
-all_grow : (classes : List Class) (files : List FileContent) → Grows classes (joined_all classes files)
+pub all_grow : (classes : List Class) (files : List FileContent) → Grows classes (joined_all classes files)
 all_grow classes [] = ([], sym (append-nil classes))
 all_grow classes (f ∷ files) =
     let one = one_grows classes f in
     let more = all_grow (with_class_of classes f) files in
     (one.0 ++ more.0, more.1 ∙ (ap (λ cs. cs ++ more.0) one.1 ∙ append_assoc classes one.0 more.0))
 
-behind_system : (system : List Class) (guests : World) (n : ℕ) → slice_get (map (loaded true) system ++ guests) (length system + n) ≡ slice_get guests n
+pub behind_system : (system : List Class) (guests : World) (n : ℕ) → slice_get (map (loaded true) system ++ guests) (length system + n) ≡ slice_get guests n
 behind_system [] guests n =
     let plain : length {A = Class} [] + n ≡ n = omega arith in
     ap (slice_get guests) plain
@@ -102,16 +102,6 @@ number_of host earlier world MoreThanProfile = refl
 number_of host earlier world (Holds class) =
     ap (λ (cs : List Class). length host.system + length cs) (class_joins host earlier world class)
     ∙ one_more (length host.system) (classes_in host earlier) class (joins (verdict_behind host earlier world (Holds class)))
-
--- what is wrong with a file whose class is one of the world's is wrong with the class
-pub joined_verdict : (host : HostClasses) (earlier : List FileContent) (world : World) (class : Class) → IsTrue (joins (verdict_behind host earlier world (Holds class)))
-    → verdict_behind host earlier world (Holds class) ≡ verdict_of_class world (loaded false class)
-joined_verdict host earlier world class on = by_tests (is_reserved class.name) (has_class (classes_in host earlier) class.name) (verdict_of_class world (loaded false class)) on
-  where
-    by_tests : (r h : Bool) (v : Option LoadVerdict) → IsTrue (joins (cond r (Some Reserved) (cond h (Some Duplicate) v))) → cond r (Some Reserved) (cond h (Some Duplicate) v) ≡ v
-    by_tests true h v on = absurd cc
-    by_tests false true v on = absurd cc
-    by_tests false false v on = refl
 
 must_hold : (host : HostClasses) (earlier : List FileContent) (world : World) (f : FileContent) → IsTrue (joins (verdict_behind host earlier world f)) → (class : Class) × (f ≡ Holds class)
 must_hold host earlier world OtherVersion h = absurd cc

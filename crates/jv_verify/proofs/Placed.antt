@@ -1,30 +1,21 @@
 -- The verdicts on files one by one.
-use Rattle.std.proofs.Common.{◌≡◌, ◌≢◌, ℕ, zero, suc, ◌+◌, ◌<◌, ◌≤◌, ◌&&◌, ◌==◌, Bool, true, false, cond, List, [], ◌∷◌, ◌++◌, length, map, take, Option, Some, None, refl, sym, ap, subst, ◌∙◌, inl, inr, arith}
+use Rattle.std.proofs.Common.{◌≡◌, ℕ, zero, suc, ◌+◌, ◌<◌, false, List, [], ◌∷◌, ◌++◌, length, take, Option, Some, None, refl, sym, ap, subst, ◌∙◌, inl, inr, arith}
 use Rattle.std.specs.Prelude.{IsTrue, IfNone, slice_get, ◌⊎◌}
-use Rattle.std.proofs.lemmas.Bool.{eqb-false}
 use Rattle.std.proofs.lemmas.List.{length-append}
-use Rattle.jv_meaning_world.specs.Numbers.{HoldsAtNumber}
 use Rattle.jv_class.specs.Class.{Class}
 use Rattle.jv_loader.specs.Loading.{Loading, AreLoaded}
-use Rattle.jv_loader.proofs.NoLibrary.{loaded_verdict, loaded_world}
 use Rattle.jv_meaning_world.specs.FileContent.{FileContent, AreContents}
 use Rattle.jv_meaning_world.specs.declared.content.Content.TheVariants.{OtherVersion, NoClassFile, MoreThanProfile, Holds}
-use Rattle.jv_meaning_world.specs.System.Classes.{system_classes}
 use Rattle.jv_meaning_world.specs.Library.{with_library}
 use Rattle.jv_meaning_world.specs.declared.verdict.LoadVerdict.{LoadVerdict}
-use Rattle.jv_meaning_world.specs.World.{HostClasses, Loaded, World, classes_in, loaded, world_of}
-use Rattle.jv_meaning_world.specs.Verdicts.{load_verdict, verdict_at, verdict_behind, verdict_of_class}
+use Rattle.jv_meaning_world.specs.World.{World, loaded, world_of}
+use Rattle.jv_meaning_world.specs.Verdicts.{load_verdict}
 use Rattle.jv_meaning_typing.specs.declared.verdict.Verdict.{Verdict}
 use Rattle.jv_meaning_typing.specs.declared.verdict.Verdict.TheVariants.{Accepted, Refused}
 use Rattle.jv_meaning_typing.specs.Judgement.{AreTyped, IsVerdictOfMethods, IsVerdictOfContent, IsVerdictOfFile}
 use Rattle.jv_verify.specs.Files.{Verified, AreVerdicts, AreVerified, AcceptedAreTyped}
-use Rattle.jv_verify.specs.Inside.Numbered.{joins, next_number, number_behind, IsPassed, IsVerdictAt, AreVerdictsBelow}
-use Rattle.jv_verify.proofs.Numbered.{joined_verdict, next_behind, stands}
-use Rattle.jv_verify.proofs.InSystem.{plain_at}
-
--- what a host gives that has no library
-abbrev host : HostClasses
-host = with_library []
+use Rattle.jv_verify.specs.Inside.Numbered.{joins, next_number, number_behind, IsVerdictAt, AreVerdictsBelow}
+use Rattle.jv_verify.proofs.Numbered.{next_behind, stands}
 
 -- ---- lists
 
@@ -51,23 +42,6 @@ pushed (z ∷ xs) x (suc k) y e = by_again (pushed xs x k y e)
     by_again : (slice_get xs k ≡ Some y) ⊎ ((k ≡ length xs) × (x ≡ y)) → (slice_get (z ∷ xs) (suc k) ≡ Some y) ⊎ ((suc k ≡ length (z ∷ xs)) × (x ≡ y))
     by_again (inl f) = inl f
     by_again (inr (at, same)) = inr (ap suc at, same)
-
-take_all : {X : Type 0} (xs : List X) (k : ℕ) → k ≡ length xs → take k xs ≡ xs
-take_all [] zero e = refl
-take_all [] (suc k) e = refl
-take_all (x ∷ xs) zero e = absurd cc
-take_all (x ∷ xs) (suc k) e =
-    let less : k ≡ length xs = omega (arith, e) in
-    ap (λ ys. x ∷ ys) (take_all xs k less)
-
-length_of_world : (system guests : List Class) → length (map (loaded true) system ++ map (loaded false) guests) ≡ length system + length guests
-length_of_world [] [] = refl
-length_of_world [] (c ∷ guests) =
-    let rest = length_of_world [] guests in
-    omega (arith, rest)
-length_of_world (c ∷ system) guests =
-    let rest = length_of_world system guests in
-    omega (arith, rest)
 
 as_many : (bytes : List (List ℕ)) (contents : List FileContent) → AreContents bytes contents → length contents ≡ length bytes
 as_many [] [] h = refl
@@ -107,74 +81,37 @@ of_content world n None (Holds class) v h at =
     one_class : (c : Class) → Holds class ≡ Holds c → c ≡ class
     one_class c e = cc
 
-module _ (files : List (List ℕ)) (loading : Loading) (are : AreLoaded [] files loading) where
+module _ (library files : List (List ℕ)) (loading : Loading) (are : AreLoaded library files loading) where
   many : length are.contents ≡ length loading.verdicts
   many = as_many files are.contents are.read ∙ sym are.count
 
-  why_is : (k : ℕ) (why : Option LoadVerdict) → slice_get loading.verdicts k ≡ Some why → k < length loading.verdicts → why ≡ load_verdict host are.contents k
+  why_is : (k : ℕ) (why : Option LoadVerdict) → slice_get loading.verdicts k ≡ Some why → k < length loading.verdicts → why ≡ load_verdict (with_library are.given) are.contents k
   why_is k why e less =
-      let both : Some why ≡ Some (load_verdict host are.contents k) = sym e ∙ loaded_verdict are k (subst (λ n. k < n) are.count less) in
+      let both : Some why ≡ Some (load_verdict (with_library are.given) are.contents k) = sym e ∙ are.verdict k (subst (λ n. k < n) are.count less) in
       cc
 
-  module _ (k number : ℕ) (is : number ≡ number_behind host (take k are.contents)) (why : Option LoadVerdict)
+  module _ (k number : ℕ) (is : number ≡ number_behind (with_library are.given) (take k are.contents)) (why : Option LoadVerdict)
       (at : slice_get loading.verdicts k ≡ Some why) (less : k < length loading.verdicts) where
     content : (f : FileContent) × (slice_get are.contents k ≡ Some f)
     content = there are.contents k (subst (λ n. k < n) (sym many) less)
 
     found : IsTrue (joins why) → (class : Class) × (content.0 ≡ Holds class) × (slice_get loading.world number ≡ Some (loaded false class))
     found on =
-        let there = stands host are.contents k content.0 content.1 why (why_is k why at less) on in
-        (there.0, there.1, ap (λ w. slice_get w number) (loaded_world are) ∙ (ap (slice_get (world_of host are.contents)) is ∙ there.2))
+        let there = stands (with_library are.given) are.contents k content.0 content.1 why (why_is k why at less) on in
+        (there.0, there.1, ap (λ w. slice_get w number) are.world ∙ (ap (slice_get (world_of (with_library are.given) are.contents)) is ∙ there.2))
 
     pub stands_within : IsTrue (joins why) → number < length loading.world
     stands_within on =
         let at = found on in
         is_within loading.world number (loaded false at.0) at.2
 
-    next_is_behind : next_number number why ≡ number_behind host (take (suc k) are.contents)
-    next_is_behind = ap (λ n. next_number n why) is ∙ sym (next_behind host are.contents k content.0 content.1 why (why_is k why at less))
+    next_is_behind : next_number number why ≡ number_behind (with_library are.given) (take (suc k) are.contents)
+    next_is_behind = ap (λ n. next_number n why) is ∙ sym (next_behind (with_library are.given) are.contents k content.0 content.1 why (why_is k why at less))
 
-    -- the verdict on the class of the file, which is one of the world's
-    pub verdict_here : IsTrue (joins why) → HoldsAtNumber loading.world number (λ l. why ≡ verdict_of_class loading.world l)
-    verdict_here on = λ l there.
-        let here = found on in
-        let same : loaded false here.0 ≡ l = some_same (loaded false here.0) l (sym here.2 ∙ there) in
-        let behind : why ≡ verdict_behind host (take k are.contents) (world_of host are.contents) (Holds here.0) =
-        why_is k why at less ∙ (ap (verdict_at host are.contents k) content.1 ∙ ap (verdict_behind host (take k are.contents) (world_of host are.contents)) here.1) in
-        subst (λ (x : Loaded). why ≡ verdict_of_class loading.world x) same
-        (subst (λ (w : World). why ≡ verdict_of_class w (loaded false here.0)) (sym (loaded_world are))
-        (behind ∙ joined_verdict host (take k are.contents) (world_of host are.contents) here.0 (subst (λ w. IsTrue (joins w)) behind on)))
-      where
-        some_same : (a b : Loaded) → Some a ≡ Some b → a ≡ b
-        some_same a b e = cc
-
-    pub passed_too : (class : ℕ) → IsPassed are.contents k number class → joins why && number == class ≡ false → (next : ℕ) → next ≡ next_number number why → IsPassed are.contents (k + 1) next class
-    passed_too class passed other next next_is = subst (λ n. IsPassed are.contents n next class) (sym plus) (record {
-      number_is = next_is ∙ next_is_behind;
-      before = by_before passed.before;
-    })
-      where
-        plus : k + 1 ≡ suc k
-        plus = omega arith
-
-        not_behind : (b : Bool) → joins why ≡ b → number ≤ class → next ≤ class
-        not_behind false e le =
-            let same : next ≡ number = next_is ∙ ap (λ (b : Bool). cond b (number + 1) number) e in
-            omega (arith, same, le)
-        not_behind true e le =
-            let more : next ≡ number + 1 = next_is ∙ ap (λ (b : Bool). cond b (number + 1) number) e in
-            let unlike : (number == class) ≡ false = ap (λ (b : Bool). b && number == class) (sym e) ∙ other in
-            let apart : number ≢ class = eqb-false number class unlike in
-            omega (arith, more, le, apart)
-
-        by_before : class < length system_classes ⊎ number ≤ class → class < length system_classes ⊎ next ≤ class
-        by_before (inl first) = inl first
-        by_before (inr le) = inr (not_behind (joins why) refl le)
-
-    module _ (verdicts : List Verdict) (below : AreVerdictsBelow are.contents k number verdicts) where
+    module _ (verdicts : List Verdict) (below : AreVerdictsBelow are.given are.contents k number verdicts) where
       pub more_verdicts : (v : Verdict) → IsVerdictAt loading.world number why v → (more : List Verdict) → more ≡ verdicts ++ v ∷ [] → (next : ℕ) →
-          next ≡ next_number number why → AreVerdictsBelow are.contents (k + 1) next more
-      more_verdicts v is_verdict more e next next_is = subst (λ n. AreVerdictsBelow are.contents n next more) (sym plus) (record {
+          next ≡ next_number number why → AreVerdictsBelow are.given are.contents (k + 1) next more
+      more_verdicts v is_verdict more e next next_is = subst (λ n. AreVerdictsBelow are.given are.contents n next more) (sym plus) (record {
         number = next_is ∙ next_is_behind;
         count = ap length e ∙ (length-append verdicts (v ∷ []) ∙ (ap (λ n. n + 1) below.count ∙ plus));
         verdict = λ place w at_place. by_place place w (pushed verdicts v place w (ap (λ vs. slice_get vs place) (sym e) ∙ at_place));
@@ -183,37 +120,18 @@ module _ (files : List (List ℕ)) (loading : Loading) (are : AreLoaded [] files
           plus : k + 1 ≡ suc k
           plus = omega arith
 
-          this : IsVerdictOfFile host are.contents k v
+          this : IsVerdictOfFile (with_library are.given) are.contents k v
           this =
-              subst (λ o. IsVerdictOfContent (world_of host are.contents) (load_verdict host are.contents k) o v) (sym content.1)
-              (subst (λ w. IsVerdictOfContent (world_of host are.contents) w (Some content.0) v) (why_is k why at less)
-              (subst (λ w. IsVerdictOfContent w why (Some content.0) v) (loaded_world are) (of_content loading.world number why content.0 v is_verdict found)))
+              subst (λ o. IsVerdictOfContent (world_of (with_library are.given) are.contents) (load_verdict (with_library are.given) are.contents k) o v) (sym content.1)
+              (subst (λ w. IsVerdictOfContent (world_of (with_library are.given) are.contents) w (Some content.0) v) (why_is k why at less)
+              (subst (λ w. IsVerdictOfContent w why (Some content.0) v) are.world (of_content loading.world number why content.0 v is_verdict found)))
 
-          by_place : (place : ℕ) (w : Verdict) → (slice_get verdicts place ≡ Some w) ⊎ ((place ≡ length verdicts) × (v ≡ w)) → IsVerdictOfFile host are.contents place w
+          by_place : (place : ℕ) (w : Verdict) → (slice_get verdicts place ≡ Some w) ⊎ ((place ≡ length verdicts) × (v ≡ w)) → IsVerdictOfFile (with_library are.given) are.contents place w
           by_place place w (inl before) = below.verdict place w before
           by_place place w (inr (last, same)) =
-              subst (λ n. IsVerdictOfFile host are.contents n w) (sym (last ∙ below.count)) (subst (IsVerdictOfFile host are.contents k) same this)
+              subst (λ n. IsVerdictOfFile (with_library are.given) are.contents n w) (sym (last ∙ below.count)) (subst (IsVerdictOfFile (with_library are.given) are.contents k) same this)
 
-  -- a class that is none of the files' is the system's
-  pub of_system : (k number class : ℕ) → IsPassed are.contents k number class → k ≡ length loading.verdicts → class < length loading.world
-      → HoldsAtNumber loading.world class (λ l. None ≡ verdict_of_class loading.world l)
-  of_system k number class passed e within = λ l there.
-      subst (λ (w : World). None ≡ verdict_of_class w l) (sym (loaded_world are)) (sym (plain_at are.contents class l first (ap (λ w. slice_get w class) (sym (loaded_world are)) ∙ there)))
-    where
-      all_taken : take k are.contents ≡ are.contents
-      all_taken = take_all are.contents k (e ∙ sym many)
-
-      size : length loading.world ≡ number
-      size = ap length (loaded_world are) ∙ (length_of_world system_classes (classes_in host are.contents) ∙ sym (passed.number_is ∙ ap (number_behind host) all_taken))
-
-      first : class < length system_classes
-      first = by_before passed.before
-        where
-          by_before : class < length system_classes ⊎ number ≤ class → class < length system_classes
-          by_before (inl less) = less
-          by_before (inr le) = absurd (omega (arith, le, size, within))
-
-  pub all_verdicts : (k number : ℕ) (verdicts : List Verdict) → AreVerdictsBelow are.contents k number verdicts → k ≡ length loading.verdicts → AreVerdicts are.contents verdicts
+  pub all_verdicts : (k number : ℕ) (verdicts : List Verdict) → AreVerdictsBelow are.given are.contents k number verdicts → k ≡ length loading.verdicts → AreVerdicts are.given are.contents verdicts
   all_verdicts k number verdicts below e = record { count = below.count ∙ (e ∙ sym many); verdict = below.verdict }
 
 -- ---- what is accepted
@@ -225,9 +143,9 @@ typed_content world (Some why) class h = absurd (unlike h)
     unlike : Accepted ≡ Refused why → ⊥
     unlike e = cc
 
-pub accepted_are_typed : (contents : List FileContent) (verified : Verified) → AreVerified contents verified → AcceptedAreTyped contents verified
-accepted_are_typed contents verified are place class at accepted =
+pub accepted_are_typed : (given : List Class) (contents : List FileContent) (verified : Verified) → AreVerified given contents verified → AcceptedAreTyped contents verified
+accepted_are_typed given contents verified are place class at accepted =
     let verdict = are.verdicts.verdict place Accepted accepted in
     subst (λ w. AreTyped w (loaded false class) class.methods) (sym are.world)
-    (typed_content (world_of host contents) (load_verdict host contents place) class
-    (subst (λ o. IsVerdictOfContent (world_of host contents) (load_verdict host contents place) o Accepted) at verdict))
+    (typed_content (world_of (with_library given) contents) (load_verdict (with_library given) contents place) class
+    (subst (λ o. IsVerdictOfContent (world_of (with_library given) contents) (load_verdict (with_library given) contents place) o Accepted) at verdict))

@@ -1,20 +1,16 @@
 //! The verdicts on a guest's files.
 
-ghost use Rattle.std.specs.Prelude.{◌≡◌, ◌<◌, ℕ, List, [], IfOk, IfNone, IsTrue, length};
-ghost use Rattle.jv_loader.specs.Loading.{AreLoaded};
+ghost use Rattle.std.specs.Prelude.{◌≡◌, ◌<◌, IfOk, IfNone, IsTrue, length};
 ghost use Rattle.jv_meaning_world.specs.World.{Loaded, World};
 ghost use Rattle.jv_meaning_typing.specs.Judgement.{IsVerdictOfMethods};
 ghost use Rattle.jv_verify.specs.Methods.{AreJudged};
-ghost use Rattle.jv_verify.specs.Inside.Numbered.{joins, next_number, IsVerdictAt, AreVerdictsOn};
+ghost use Rattle.jv_verify.specs.Inside.Numbered.{joins, next_number, AreOfLibrary, AreVerdictsOn, IsVerdictAt};
 
 use crate::methods::check_methods;
 use jv_loader::{Classes, LoadVerdict};
 use jv_meaning_typing::{Verdict, VerifyFault};
 use std::alloc::{AllocError, Global};
 use std::hash::RandomState;
-
-// How many classes of the system there are, behind which those of the files are numbered.
-pub(crate) const SYSTEM_COUNT: usize = 33;
 
 /// The verdict on a class whose methods decide.
 fn verdict_on(fault: Option<VerifyFault>) -> Verdict
@@ -72,11 +68,11 @@ pub(crate) fn verdicts_of<'a>(
     state: RandomState,
     classes: &Classes<'a>,
 ) -> Result<Vec<Verdict>, AllocError>
-    requires { (files : List (List ℕ)) × AreLoaded [] files classes.now }
+    requires { AreOfLibrary classes.now }
     ensures { IfOk result (λ verdicts. AreVerdictsOn classes.now verdicts.items) }
 {
     let mut verdicts = Vec::new(alloc);
-    let mut number = SYSTEM_COUNT;
+    let mut number = classes.host_count();
     for file in 0..classes.file_count() {
         let why = classes.load_verdict(file);
         verdicts.push(verdict_of(alloc, state, classes, number, why)?)?;

@@ -107,7 +107,7 @@ check_refusal files room =
 pub record Checks (files : List (List ℕ)) (code : ℕ) (old new : List ToldVerdict) : Type 0 where
   pub answer : IsAnswer (check_refusal files (length old)) code
   pub told :
-      code ≡ ok → (found : Verified) × AreFilesOf files found × IsFilled (map told_verdict found.verdicts) old new
+      code ≡ ok → (found : Verified) × AreFilesOf [] files found × IsFilled (map told_verdict found.verdicts) old new
   pub same : code ≢ ok → new ≡ old
 
 -- The guest, alone in a host, had a turn of at most n steps, and shows these numbers; what it wrote fills the front of the room.

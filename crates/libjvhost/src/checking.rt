@@ -1,6 +1,6 @@
 //! The verdicts on files, and nothing runs.
 
-ghost use Rattle.std.specs.Prelude.{◌≡◌, IfSome, map};
+ghost use Rattle.std.specs.Prelude.{◌≡◌, [], IfSome, map};
 ghost use Rattle.jv_limits.specs.Bytes.{bytes_of};
 ghost use Rattle.jv_verify.specs.Files.{AreFilesOf, Verified};
 ghost use Rattle.libjvhost.specs.Calls.{Checks};
@@ -36,7 +36,7 @@ fn told_verdicts(
     files: &[&[u8]],
 ) -> Option<Vec<ToldVerdict>>
     ensures { IfSome result (λ told.
-        (found : Verified) × AreFilesOf (map bytes_of files.now) found × (told.items ≡ map told_verdict found.verdicts)) }
+        (found : Verified) × AreFilesOf [] (map bytes_of files.now) found × (told.items ≡ map told_verdict found.verdicts)) }
 {
     let (Some(state), Ok(system)) = (state_of(seed, more_seed), system_files(alloc)) else {
         return None;

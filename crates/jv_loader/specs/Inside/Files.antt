@@ -1,6 +1,7 @@
 -- Files that join a world one by one.
 use Rattle.std.specs.Prelude.{◌≡◌, ℕ, ◌||◌, false, List, [], ◌∷◌, ◌++◌, length, Option, Some, Result, Ok, Err, IfOk, ◌<◌, is_some, slice_get, if◌then◌else◌}
 use Rattle.std.specs.Option.{option_and_then}
+use Rattle.jv_class.specs.Class.{Class}
 use Rattle.jv_meaning_world.specs.FileContent.{FileContent, AreContents, IsContent}
 use Rattle.jv_meaning_world.specs.declared.content.Content.TheVariants.{OtherVersion, NoClassFile, MoreThanProfile, Holds}
 use Rattle.jv_meaning_world.specs.declared.verdict.LoadVerdict.{LoadVerdict}
@@ -50,9 +51,9 @@ verdict_of_entry world (Ok number) = option_and_then (verdict_of_class world) (s
 abbrev pub IsPlace : World → Result ℕ LoadVerdict → Type 0
 IsPlace world entry = IfOk entry (λ number. number < length world)
 
--- the world of the system's classes and those of some files
+-- the world of the system's classes, those of a library and those of some files
 abbrev pub IsOfFiles : World → Type 0
-IsOfFiles world = (contents : List FileContent) × (world ≡ world_of (with_library []) contents)
+IsOfFiles world = (library : List Class) × (contents : List FileContent) × (world ≡ world_of (with_library library) contents)
 
 -- a file's content joins the list of classes, if it is a class of its own, and gets an entry
 abbrev pub IsPut : List ℕ → World → World → Result ℕ LoadVerdict → Type 0

@@ -20,5 +20,5 @@ pub record AreExplainedBelow (links : Bool) (contents : List FileContent) (verdi
 -- of files of which this is found, whatever they hold
 abbrev pub AreSaid : (links : Bool) → (files : List (List ℕ)) → Verified → (said : List (List ℕ)) → Type 0
 AreSaid links files verified said =
-    (contents : List FileContent) → AreContents files contents → AreVerified contents verified
+    (contents : List FileContent) → AreContents files contents → AreVerified [] contents verified
     → AreExplained links contents verified.verdicts said

@@ -1,11 +1,11 @@
 -- The numbers of the classes of a guest's files (JVMS 5.3), and the verdicts on the files one by one.
-use Rattle.std.specs.Prelude.{◌≡◌, ◌<◌, ◌≤◌, ◌⊎◌, ℕ, ◌+◌, Bool, true, false, List, [], length, take, Option, Some, None, slice_get, if◌then◌else◌}
+use Rattle.std.specs.Prelude.{◌≡◌, ℕ, ◌+◌, Bool, true, false, List, length, take, Option, Some, None, slice_get, if◌then◌else◌}
+use Rattle.jv_class.specs.Class.{Class}
 use Rattle.jv_meaning_world.specs.FileContent.{FileContent}
-use Rattle.jv_meaning_world.specs.System.Classes.{system_classes}
 use Rattle.jv_meaning_world.specs.Library.{with_library}
 use Rattle.jv_meaning_world.specs.declared.verdict.LoadVerdict.{LoadVerdict}
 use Rattle.jv_meaning_world.specs.declared.verdict.LoadVerdict.TheVariants.{Version, Format, Unsupported, Reserved, Duplicate}
-use Rattle.jv_meaning_world.specs.World.{HostClasses, Loaded, World, classes_in}
+use Rattle.jv_meaning_world.specs.World.{HostClasses, World, classes_in}
 use Rattle.jv_meaning_world.specs.Numbers.{HoldsAtNumber}
 use Rattle.jv_meaning_typing.specs.declared.verdict.Verdict.{Verdict}
 use Rattle.jv_meaning_typing.specs.declared.verdict.Verdict.TheVariants as verdicts
@@ -36,16 +36,16 @@ IsVerdictAt world number (Some why) verdict = verdict ≡ verdicts.Refused why
 IsVerdictAt world number None verdict = HoldsAtNumber world number (λ l. IsVerdictOfMethods world l verdict)
 
 -- the verdicts on the first files, and the number of the next one's class
-pub record AreVerdictsBelow (contents : List FileContent) (below next : ℕ) (verdicts : List Verdict) : Type 0 where
-  pub number : next ≡ number_behind (with_library []) (take below contents)
+pub record AreVerdictsBelow (given : List Class) (contents : List FileContent) (below next : ℕ) (verdicts : List Verdict) : Type 0 where
+  pub number : next ≡ number_behind (with_library given) (take below contents)
   pub count : length verdicts ≡ below
-  pub verdict : (place : ℕ) (v : Verdict) → slice_get verdicts place ≡ Some v → IsVerdictOfFile (with_library []) contents place v
-
--- the files before one are passed, in search of the class with a number: it is the system's, or none of their classes
-pub record IsPassed (contents : List FileContent) (file number class : ℕ) : Type 0 where
-  pub number_is : number ≡ number_behind (with_library []) (take file contents)
-  pub before : class < length system_classes ⊎ number ≤ class
+  pub verdict : (place : ℕ) (v : Verdict) → slice_get verdicts place ≡ Some v → IsVerdictOfFile (with_library given) contents place v
 
 -- the verdicts on the files that classes were loaded from
 abbrev pub AreVerdictsOn : Loading → List Verdict → Type 0
-AreVerdictsOn classes verdicts = (files : List (List ℕ)) (are : AreLoaded [] files classes) → AreVerdicts are.contents verdicts
+AreVerdictsOn classes verdicts =
+    (library files : List (List ℕ)) (are : AreLoaded library files classes) → AreVerdicts are.given are.contents verdicts
+
+-- these classes were loaded behind those of a library
+abbrev pub AreOfLibrary : Loading → Type 0
+AreOfLibrary classes = (library : List (List ℕ)) × (files : List (List ℕ)) × AreLoaded library files classes

@@ -3,6 +3,7 @@ use Rattle.std.specs.Prelude.{slice_get, string_bytes}
 use Rattle.std.proofs.lemmas.List.{length-map, map-append}
 use Rattle.std.proofs.lemmas.Option.{slice_get-map}
 use Rattle.jv_limits.specs.Bytes.{bytes_of}
+use Rattle.jv_verify.proofs.Hosts.{alone}
 use Rattle.jv_program_explain.specs.Inside.Below.{AreExplainedBelow}
 use Rattle.jv_program_explain.proofs.Saying.{all_said, none_yet, one_more, typed_at, within_at}
 use Rattle.jv_program_explain.proofs.said.said_of.Goals as goal
@@ -16,21 +17,23 @@ pub said_at-requires : goal.said_at-requires
 said_at-requires c =
     let files = c.args.files.now in
     let are = c.requires in
+    let found = alone [] (map bytes_of files) c.args.verified.now refl are in
     let many : length (map bytes_of files) ≡ length files = length-map files bytes_of in
     let less : c.loop-place.place < length files = search rules in
-    typed_at (map bytes_of files) are.contents are.read c.args.verified.now are.found c.args.links c.loop-place.place (omega (arith, many, less)) c.verdict_at-verdict.result
+    typed_at (map bytes_of files) are.contents are.read c.args.verified.now found c.args.links c.loop-place.place (omega (arith, many, less)) c.verdict_at-verdict.result
     (ap (λ vs. slice_get vs c.loop-place.place) (sym c.verdicts-verdicts.ensures) ∙ c.verdict_at-verdict.ensures) c.loop-place.number
-    (c.loop-place.invariant are.contents are.read are.found).number_is c.classes-classes.result.now.world c.classes-classes.ensures
+    (c.loop-place.invariant are.contents are.read found).number_is c.classes-classes.result.now.world c.classes-classes.ensures
 
 pub next_number-number-requires : goal.next_number-number-requires
 next_number-number-requires c =
     let files = c.args.files.now in
     let are = c.requires in
+    let found = alone [] (map bytes_of files) c.args.verified.now refl are in
     let many : length (map bytes_of files) ≡ length files = length-map files bytes_of in
     let less : c.loop-place.place < length files = search rules in
-    within_at (map bytes_of files) are.contents are.read c.args.verified.now are.found c.args.links c.loop-place.place (omega (arith, many, less)) c.verdict_at-verdict.result
+    within_at (map bytes_of files) are.contents are.read c.args.verified.now found c.args.links c.loop-place.place (omega (arith, many, less)) c.verdict_at-verdict.result
     (ap (λ vs. slice_get vs c.loop-place.place) (sym c.verdicts-verdicts.ensures) ∙ c.verdict_at-verdict.ensures) c.loop-place.number
-    (c.loop-place.invariant are.contents are.read are.found).number_is c.classes-classes.result.now.world c.classes-classes.ensures
+    (c.loop-place.invariant are.contents are.read found).number_is c.classes-classes.result.now.world c.classes-classes.ensures
 
 pub loop-place-preserved : goal.loop-place-preserved
 loop-place-preserved c = λ contents are found.

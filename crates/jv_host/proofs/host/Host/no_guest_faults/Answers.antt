@@ -12,4 +12,4 @@ returns g c = λ id a e.
     item_of_image admission_of c.self.inside.guests.items id a
     (subst (λ (l : List Admission). slice_get l id ≡ Some a) (sym c.self.view_is) e) in
     let stands = (c.self.invariant.each id there.0 there.1).stands in
-    subst NeverFaults there.2 (never_faults c.never_faults.ensures c.no_library_stands.ensures (admission_of there.0) stands.judged stands.no_library stands.right)
+    subst NeverFaults there.2 (never_faults c.one_judged.ensures c.never_faults.ensures (admission_of there.0) stands.judged stands.right stands.library_stands)

@@ -15,7 +15,7 @@ run-turn-requires-clause-can g c =
       s = w.stands.state;
       addresses = w.addresses;
       runs =
-          runs_from c.never_faults.ensures c.no_library_stands.ensures c.objects_are_loadable.ensures c.initializations_are_loadable.ensures c.alone_steps_on.ensures w.g w.b w.feeds w.n
+          runs_from c.never_faults.ensures c.objects_are_loadable.ensures c.initializations_are_loadable.ensures c.alone_steps_on.ensures w.g w.b w.feeds w.n
           w.addresses c.args.self.now (g.S.Store.content c.args.store.now) w.stands c.classes.result.now.world c.deref.result.now c.classes.ensures
           c.deref.ensures.value;
     }
@@ -40,7 +40,7 @@ returns-clause-went g c = λ own b feeds n addresses h.
     let blocks = g.S.Store.content c.args.store.now in
     let ran =
     c.run-turn.ensures.ran h.judged.program h.state addresses
-    (runs_from c.never_faults.ensures c.no_library_stands.ensures c.objects_are_loadable.ensures c.initializations_are_loadable.ensures c.alone_steps_on.ensures own b feeds n
+    (runs_from c.never_faults.ensures c.objects_are_loadable.ensures c.initializations_are_loadable.ensures c.alone_steps_on.ensures own b feeds n
     addresses c.args.self.now blocks h c.classes.result.now.world c.deref.result.now c.classes.ensures c.deref.ensures.value) in
     went c.alone_steps_on.ensures own b feeds n (c.args.n - c.run-turn.result.left) addresses c.args.self.now _ blocks (g.S.Store.content c.run-turn.new.store)
     h ran refl (subst (λ (w : World). IsLinked w c.run-turn.new.linked) c.classes.ensures c.run-turn.ensures.linked) refl c.run-turn.ensures.fewer
@@ -50,9 +50,9 @@ returns-clause-running g c = λ own b feeds n addresses h j s is here.
     let blocks = g.S.Store.content c.args.store.now in
     let ran =
     c.run-turn.ensures.ran h.judged.program h.state addresses
-    (runs_from c.never_faults.ensures c.no_library_stands.ensures c.objects_are_loadable.ensures c.initializations_are_loadable.ensures c.alone_steps_on.ensures own b feeds n
+    (runs_from c.never_faults.ensures c.objects_are_loadable.ensures c.initializations_are_loadable.ensures c.alone_steps_on.ensures own b feeds n
     addresses c.args.self.now blocks h c.classes.result.now.world c.deref.result.now c.classes.ensures c.deref.ensures.value) in
-    ran_to_last c.never_faults.ensures c.no_library_stands.ensures c.objects_are_loadable.ensures c.initializations_are_loadable.ensures c.alone_steps_on.ensures own b feeds n
+    ran_to_last c.never_faults.ensures c.objects_are_loadable.ensures c.initializations_are_loadable.ensures c.alone_steps_on.ensures own b feeds n
     addresses c.args.self.now blocks h c.end_fits_alone.ensures ran.t (c.args.n - c.run-turn.result.left) j s ran.does is here
 
 pub returns-clause-ended : goal.returns-clause-ended
