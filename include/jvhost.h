@@ -63,7 +63,9 @@ enum jvhost_code {
     JVHOST_WRONG_VERDICT = 14,       /* jvhost_verdict_text: no call of this library tells such a verdict */
     JVHOST_NULL_BYTES = 15,          /* jvhost_admit_copy: a null pointer to bytes of some length */
     JVHOST_NO_RANDOM = 16,           /* the system gave no random bytes for hashing (getrandom) */
-    JVHOST_OLD_PROCESSOR = 17        /* the processor lacks what the library was compiled for: x86-64-v2 (SSE4.2, POPCNT, SSSE3) */
+    JVHOST_OLD_PROCESSOR = 17,       /* the processor lacks what the library was compiled for: x86-64-v2 (SSE4.2, POPCNT, SSSE3) */
+    JVHOST_LIBRARY_BROKEN = 18,      /* jvhost_admit: a class of the library is not accepted beside the guest's files */
+    JVHOST_NO_LIBRARY = 19           /* jvhost_new_with_library: the files are no library; the fault says why */
 };
 
 /* A text for a code, in English, with no full stop. It is static. For a number that is no code it says so. */
@@ -174,6 +176,37 @@ uint32_t jvhost_new(jvhost_t *host);
  * JVHOST_HAS_HOST, JVHOST_HOST_MEMORY. The processor is not asked. */
 uint32_t jvhost_new_seeded(jvhost_t *host, uint64_t seed, uint64_t more_seed);
 
+/* What is wrong with files that are no library. */
+enum jvhost_library_fault_kind {
+    JVHOST_LIBRARY_VERSION = 0,          /* the bytes begin like a class file of a version other than 50.0, 51.0 and 52.0 */
+    JVHOST_LIBRARY_FORMAT = 1,           /* the bytes are no class file */
+    JVHOST_LIBRARY_UNSUPPORTED = 2,      /* a class file with more than the host's profile has */
+    JVHOST_LIBRARY_RESERVED = 3,         /* a class below host/ */
+    JVHOST_LIBRARY_DUPLICATE = 4,        /* the class has the name of an earlier file's class */
+    JVHOST_LIBRARY_MAIN = 5,             /* the class has a main([String)V, which is the guest's */
+    JVHOST_LIBRARY_HEADER = 6,           /* a class of the system's name with other flags, supers or fields */
+    JVHOST_LIBRARY_INITIALIZER = 7,      /* a class of the system's name with a <clinit> */
+    JVHOST_LIBRARY_ABOVE_ARRAYS = 8,     /* java/lang/Cloneable or java/io/Serializable with methods */
+    JVHOST_LIBRARY_NO_STRING = 9,        /* java/lang/String is missing */
+    JVHOST_LIBRARY_NO_COMPARABLE = 10,   /* java/lang/Comparable is missing */
+    JVHOST_LIBRARY_NO_CHAR_SEQUENCE = 11 /* java/lang/CharSequence is missing */
+};
+
+typedef struct {
+    size_t size;   /* the caller sets it: sizeof(jvhost_library_fault) */
+    size_t file;   /* the file that has it, the first at 0; 0 where none has */
+    uint32_t kind; /* enum jvhost_library_fault_kind */
+} jvhost_library_fault;
+
+/* A host without a guest, whose guests all stand on a library: class files that stand in front of each guest's own, and lend the system's
+ * classes methods (docs/LIBRARY.md). The files are copied. They are judged with each guest's, which is refused where one of them is not
+ * accepted: JVHOST_LIBRARY_BROKEN. Refused by the first of JVHOST_WRONG_SIZE, JVHOST_HAS_HOST, JVHOST_NO_FILES, JVHOST_TOO_MANY_FILES,
+ * JVHOST_FILE_TOO_LONG and JVHOST_NO_LIBRARY that applies, and for JVHOST_HOST_MEMORY; JVHOST_NO_RANDOM and JVHOST_OLD_PROCESSOR come before
+ * these. With JVHOST_NO_LIBRARY *fault says why, and it is else as it was. */
+uint32_t jvhost_new_with_library(jvhost_t *host, const jvhost_bytes *files, size_t file_count, jvhost_library_fault *fault);
+uint32_t jvhost_new_with_library_seeded(jvhost_t *host, uint64_t seed, uint64_t more_seed, const jvhost_bytes *files, size_t file_count,
+                                        jvhost_library_fault *fault);
+
 /* Ends a host, with its guests and all copies. What jvhost_admit was given is the caller's again. The handle is {0} then, and may hold a
  * new host. For a handle of {0} it does nothing. */
 void jvhost_free(jvhost_t *host);
@@ -182,8 +215,8 @@ void jvhost_free(jvhost_t *host);
 
 /* Judges a guest's files and admits it, at its start; *id is its number, the first is 0. A file that is not accepted is no reason to
  * refuse: its verdict says so, and what uses its class throws. Refused by the first of JVHOST_WRONG_SIZE, JVHOST_NO_HOST, JVHOST_NO_FILES,
- * JVHOST_TOO_MANY_FILES, JVHOST_FILE_TOO_LONG, JVHOST_INPUT_TOO_LONG, JVHOST_BUDGET_OUT_OF_RANGE, JVHOST_TOO_MANY_GUESTS and
- * JVHOST_HOST_MEMORY that applies.
+ * JVHOST_TOO_MANY_FILES, JVHOST_FILE_TOO_LONG, JVHOST_INPUT_TOO_LONG, JVHOST_BUDGET_OUT_OF_RANGE, JVHOST_TOO_MANY_GUESTS,
+ * JVHOST_LIBRARY_BROKEN and JVHOST_HOST_MEMORY that applies.
  *
  * Owed: the array of files, the bytes of each, main and input stay where they are, unchanged, until jvhost_free of this host returns.
  * `guest` itself need not. */

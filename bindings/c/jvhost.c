@@ -32,6 +32,8 @@ static const char *const code_texts[] = {
     "a pointer to bytes is null",
     "the system gave no random bytes",
     "the processor is older than x86-64-v2",
+    "a class of the library is not accepted beside the guest's files",
+    "the files are no library",
 };
 
 const char *jvhost_code_text(uint32_t code) {
@@ -68,6 +70,12 @@ uint32_t jvhost_new(jvhost_t *host) {
     uint64_t seed[2];
     uint32_t code = seed_of(seed);
     return code == JVHOST_OK ? jvhost_new_seeded(host, seed[0], seed[1]) : code;
+}
+
+uint32_t jvhost_new_with_library(jvhost_t *host, const jvhost_bytes *files, size_t file_count, jvhost_library_fault *fault) {
+    uint64_t seed[2];
+    uint32_t code = seed_of(seed);
+    return code == JVHOST_OK ? jvhost_new_with_library_seeded(host, seed[0], seed[1], files, file_count, fault) : code;
 }
 
 uint32_t jvhost_check(const jvhost_bytes *files, size_t file_count, jvhost_verdict_t *verdicts, size_t room) {

@@ -19,11 +19,12 @@ static void texts(void) {
     CHECK(strcmp(jvhost_version(), JVHOST_VERSION) == 0);
     CHECK(strcmp(jvhost_code_text(JVHOST_OK), "done") == 0);
     CHECK(strcmp(jvhost_code_text(99), "no code of this library") == 0);
-    for (uint32_t code = JVHOST_OK; code <= JVHOST_OLD_PROCESSOR; code++)
+    for (uint32_t code = JVHOST_OK; code <= JVHOST_NO_LIBRARY; code++)
         for (uint32_t other = JVHOST_OK; other < code; other++)
             CHECK(strcmp(jvhost_code_text(code), jvhost_code_text(other)) != 0);
     CHECK(sizeof(jvhost_guest) == 72);
     CHECK(sizeof(jvhost_seen) == 48);
+    CHECK(sizeof(jvhost_library_fault) == 24);
 }
 
 static void one_guest(void) {
@@ -297,6 +298,25 @@ static void misuses(void) {
     CHECK(verdicts[0].kind == 7);
 }
 
+/* What is no library, and what is wrong with it. */
+static void no_library(void) {
+    jvhost_t host = {{NULL, NULL, 0}, NULL};
+    jvhost_library_fault fault = {8, 7, 7};
+    jvhost_bytes files[2] = {hi.files[0], {jvhost_nothing, 0}};
+    static jvhost_bytes many[1025];
+    CHECK(jvhost_new_with_library(&host, files, 1, &fault) == JVHOST_WRONG_SIZE && fault.kind == 7);
+    fault.size = sizeof fault;
+    CHECK(jvhost_new_with_library(&host, files, 0, &fault) == JVHOST_NO_FILES && fault.kind == 7);
+    CHECK(jvhost_new_with_library(&host, many, 1025, &fault) == JVHOST_TOO_MANY_FILES && fault.kind == 7);
+    CHECK(jvhost_new_with_library(&host, files, 1, &fault) == JVHOST_NO_LIBRARY);
+    CHECK(fault.kind == JVHOST_LIBRARY_MAIN && fault.file == 0 && fault.size == sizeof fault);
+    CHECK(jvhost_new_with_library_seeded(&host, 1, 2, files + 1, 1, &fault) == JVHOST_NO_LIBRARY);
+    CHECK(fault.kind == JVHOST_LIBRARY_FORMAT && fault.file == 0);
+    CHECK(jvhost_new(&host) == JVHOST_OK);
+    CHECK(jvhost_new_with_library(&host, files, 1, &fault) == JVHOST_HAS_HOST && fault.kind == JVHOST_LIBRARY_FORMAT);
+    jvhost_free(&host);
+}
+
 int main(int argc, char **argv) {
     if (argc == 2)
         read_folder(argv[1], &hi);
@@ -311,6 +331,7 @@ int main(int argc, char **argv) {
     alone();
     no_host();
     misuses();
+    no_library();
     free_folder(&hi);
     printf("%d wrong\n", wrong);
     return wrong != 0;

@@ -40,6 +40,8 @@ class Code(enum.IntEnum):
     NULL_BYTES = 15
     NO_RANDOM = 16
     OLD_PROCESSOR = 17
+    LIBRARY_BROKEN = 18
+    NO_LIBRARY = 19
 
 
 class End(enum.IntEnum):
@@ -74,6 +76,31 @@ class Error(Exception):
     def __init__(self, code: int):
         self.code = Code(code)
         super().__init__(_library.jvhost_code_text(code).decode())
+
+
+class LibraryFault(enum.IntEnum):
+    """What is wrong with files that are no library: `enum jvhost_library_fault_kind` of jvhost.h."""
+
+    VERSION = 0
+    FORMAT = 1
+    UNSUPPORTED = 2
+    RESERVED = 3
+    DUPLICATE = 4
+    MAIN = 5
+    HEADER = 6
+    INITIALIZER = 7
+    ABOVE_ARRAYS = 8
+    NO_STRING = 9
+    NO_COMPARABLE = 10
+    NO_CHAR_SEQUENCE = 11
+
+
+class LibraryError(Error):
+    """Files are no library: `fault` says why, and `file` is the place of the file that has it, 0 where none has."""
+
+    def __init__(self, fault: LibraryFault, file: int):
+        super().__init__(Code.NO_LIBRARY)
+        self.fault, self.file = fault, file
 
 
 class Budget(NamedTuple):
@@ -131,6 +158,10 @@ class _Verdict(ctypes.Structure):
     _fields_ = [("kind", ctypes.c_uint32), ("method", ctypes.c_uint32), ("offset", ctypes.c_uint32), ("rule", ctypes.c_uint32)]
 
 
+class _Fault(ctypes.Structure):
+    _fields_ = [("size", ctypes.c_size_t), ("file", ctypes.c_size_t), ("kind", ctypes.c_uint32)]
+
+
 class _Handle(ctypes.Structure):
     _fields_ = [("kept", ctypes.c_void_p), ("owned", ctypes.c_void_p), ("holds", ctypes.c_uint32), ("copies", ctypes.c_void_p)]
 
@@ -143,6 +174,7 @@ def _declared():
         ("code_text", ctypes.c_char_p, [u32]),
         ("new", u32, [pointer]),
         ("new_seeded", u32, [pointer, u64, u64]),
+        ("new_with_library", u32, [pointer, pointer, size, pointer]),
         ("free", None, [pointer]),
         ("admit_copy", u32, [pointer, pointer, pointer]),
         ("turn", u32, [pointer, u32, u32, pointer]),
@@ -221,13 +253,24 @@ class Host:
             print(host.observe(guest).output)
     """
 
-    def __init__(self, seed: Optional[int] = None):
-        """A seed of at most 128 bits is for tests: strangers who know it can make the host slow."""
+    def __init__(self, seed: Optional[int] = None, library: Iterable[bytes] = ()):
+        """With the class files of a library all guests stand on it; LibraryError says what is wrong where they are none. A seed of at most
+        128 bits is for tests, and for a host without one: strangers who know it can make the host slow."""
         self._handle = _Handle()
-        if seed is None:
+        kept = [bytes(it) for it in library]
+        if kept:
+            self._stand_on(kept)
+        elif seed is None:
             _want_ok(_library.jvhost_new(ctypes.byref(self._handle)))
         else:
             _want_ok(_library.jvhost_new_seeded(ctypes.byref(self._handle), seed & (2**64 - 1), seed >> 64))
+
+    def _stand_on(self, library: List[bytes]) -> None:
+        fault = _Fault(ctypes.sizeof(_Fault))
+        code = _library.jvhost_new_with_library(ctypes.byref(self._handle), _listed(library), len(library), ctypes.byref(fault))
+        if code == Code.NO_LIBRARY:
+            raise LibraryError(LibraryFault(fault.kind), fault.file)
+        _want_ok(code)
 
     def close(self) -> None:
         """Ends the host, with its guests. Every other call then raises NO_HOST."""

@@ -42,6 +42,19 @@ def main():
         assert host.output(guest, 1) == b"i" and host.output(guest, 9) == b""
     assert raises(jvhost.Code.NO_HOST, host.observe, 0)
     host.close()
+    for files, fault in (([hi], "MAIN"), ([b""], "FORMAT"), ([read(root, "crates", "embed_host", "data", "Echo.class")], "MAIN")):
+        try:
+            jvhost.Host(library=files)
+            raise AssertionError("a library of " + fault)
+        except jvhost.LibraryError as error:
+            assert (error.fault.name, error.file, error.code) == (fault, 0, jvhost.Code.NO_LIBRARY)
+    folder = os.path.join(root, "library", "classes")
+    with jvhost.Host(library=[read(folder, name) for name in sorted(os.listdir(folder))]) as host:
+        words = os.path.join(root, "examples", "library", "sums")
+        files = [read(words, name) for name in sorted(os.listdir(words)) if name.endswith(".class")]
+        host.admit(files, read(words, "main").decode().strip(), b"1 2 3\n")
+        host.run(1_000, 10_000)
+        assert host.observe(0).end == jvhost.End.RETURNED and host.observe(0).output != b""
     thrower = jvhost.Host()
     guest = thrower.admit([read(root, "crates", "embed_host", "data", "Echo.class"), b""], "None")
     assert thrower.observe(guest).end == jvhost.End.NO_MAIN

@@ -42,6 +42,14 @@ pub struct Verdict {
 }
 
 #[repr(C)]
+#[derive(Default)]
+pub struct Fault {
+    pub size: usize,
+    pub file: usize,
+    pub kind: u32,
+}
+
+#[repr(C)]
 pub struct HostPart {
     pub kept: *mut u8,
     pub owned: *mut u8,
@@ -58,6 +66,7 @@ extern "C" {
     pub fn jvhost_code_text(code: u32) -> *const c_char;
     pub fn jvhost_version() -> *const c_char;
     pub fn jvhost_new(host: *mut Handle) -> u32;
+    pub fn jvhost_new_with_library(host: *mut Handle, files: *const Bytes, file_count: usize, fault: *mut Fault) -> u32;
     pub fn jvhost_free(host: *mut Handle);
     pub fn jvhost_admit_copy(host: *mut Handle, guest: *const Guest, id: *mut u32) -> u32;
     pub fn jvhost_turn(host: *mut Handle, id: u32, steps: u32, taken: *mut u64) -> u32;

@@ -35,12 +35,64 @@ pub enum Error {
     TooManyGuests,
     /// Memory was refused.
     HostMemory,
+    /// A class of the library is not accepted beside the guest's files.
+    LibraryBroken,
+    /// The files are no library: what is wrong, and the place of the file that has it, 0 where none has.
+    NoLibrary(LibraryFault, usize),
     /// Another code of `jvhost.h`.
     Other(u32),
 }
 
+/// What is wrong with files that are no library.
+#[derive(Clone, Copy, Debug, PartialEq, Eq)]
+pub enum LibraryFault {
+    /// The bytes begin like a class file of a version other than 50.0, 51.0 and 52.0.
+    Version,
+    /// The bytes are no class file.
+    Format,
+    /// A class file with more than the host's profile has.
+    Unsupported,
+    /// A class below `host/`.
+    Reserved,
+    /// The class has the name of an earlier file's class.
+    Duplicate,
+    /// The class has a `main([String)V`, which is the guest's.
+    Main,
+    /// A class of the system's name with other flags, supers or fields.
+    Header,
+    /// A class of the system's name with a `<clinit>`.
+    Initializer,
+    /// java/lang/Cloneable or java/io/Serializable with methods.
+    AboveArrays,
+    /// java/lang/String is missing.
+    NoString,
+    /// java/lang/Comparable is missing.
+    NoComparable,
+    /// java/lang/CharSequence is missing.
+    NoCharSequence,
+}
+
+impl LibraryFault {
+    const ALL: [LibraryFault; 12] = [
+        LibraryFault::Version,
+        LibraryFault::Format,
+        LibraryFault::Unsupported,
+        LibraryFault::Reserved,
+        LibraryFault::Duplicate,
+        LibraryFault::Main,
+        LibraryFault::Header,
+        LibraryFault::Initializer,
+        LibraryFault::AboveArrays,
+        LibraryFault::NoString,
+        LibraryFault::NoComparable,
+        LibraryFault::NoCharSequence,
+    ];
+}
+
+const NO_LIBRARY: u32 = 19;
+
 impl Error {
-    const CODES: [(Error, u32); 8] = [
+    const CODES: [(Error, u32); 9] = [
         (Error::NoGuest, 3),
         (Error::NoFiles, 5),
         (Error::TooManyFiles, 6),
@@ -49,12 +101,14 @@ impl Error {
         (Error::BudgetOutOfRange, 9),
         (Error::TooManyGuests, 10),
         (Error::HostMemory, 11),
+        (Error::LibraryBroken, 18),
     ];
 
     /// The code of `jvhost.h`.
     pub fn code(self) -> u32 {
         match self {
             Error::Other(code) => code,
+            Error::NoLibrary(..) => NO_LIBRARY,
             _ => Error::CODES.iter().find(|it| it.0 == self).map_or(0, |it| it.1),
         }
     }
@@ -295,6 +349,21 @@ impl Host {
         let mut made = Host { handle: calls::Handle { host, copies: ptr::null_mut() } };
         // SAFETY: the handle is of zeros.
         want_ok(unsafe { calls::jvhost_new(&mut made.handle) })?;
+        Ok(made)
+    }
+
+    /// A host without a guest, whose guests all stand on the library of these class files, which are copied.
+    pub fn with_library(files: &[&[u8]]) -> Result<Host, Error> {
+        let listed: Vec<calls::Bytes> = files.iter().map(|it| told_bytes(it)).collect();
+        let mut fault = calls::Fault { size: std::mem::size_of::<calls::Fault>(), ..calls::Fault::default() };
+        let host = calls::HostPart { kept: ptr::null_mut(), owned: ptr::null_mut(), holds: 0 };
+        let mut made = Host { handle: calls::Handle { host, copies: ptr::null_mut() } };
+        // SAFETY: the handle is of zeros, and the files are borrowed until the call returns.
+        let code = unsafe { calls::jvhost_new_with_library(&mut made.handle, listed.as_ptr(), listed.len(), &mut fault) };
+        if code == NO_LIBRARY {
+            return Err(Error::NoLibrary(LibraryFault::ALL[fault.kind as usize], fault.file));
+        }
+        want_ok(code)?;
         Ok(made)
     }
 

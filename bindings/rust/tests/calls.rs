@@ -1,7 +1,7 @@
 //! Each call of the crate, without `unsafe`.
 #![forbid(unsafe_code)]
 
-use jvhost::{check, judge, version, End, Error, Guest, Host, Verdict};
+use jvhost::{check, judge, version, End, Error, Guest, Host, LibraryFault, Verdict};
 use std::fs;
 use std::thread;
 
@@ -29,6 +29,14 @@ fn checks_files() {
     assert!(verdicts[0].is_accepted() && !verdicts[1].is_accepted());
     assert_eq!(verdicts, [Verdict::Accepted, Verdict::Format, Verdict::Duplicate]);
     assert_eq!(check(&[]), Err(Error::NoFiles));
+}
+
+#[test]
+fn refuses_what_is_no_library() {
+    let class = hi();
+    assert_eq!(Host::with_library(&[&class]).err(), Some(Error::NoLibrary(LibraryFault::Main, 0)));
+    assert_eq!(Host::with_library(&[b""]).err(), Some(Error::NoLibrary(LibraryFault::Format, 0)));
+    assert_eq!(Host::with_library(&[]).err(), Some(Error::NoFiles));
 }
 
 #[test]

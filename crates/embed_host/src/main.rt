@@ -48,11 +48,12 @@ fn host_class<R: Print>(
 ) -> Option<()> {
     let classes = [class];
     let files = GuestFiles {
+        system,
         files: &classes,
         main: b"Echo",
         input: b"",
     };
-    let mut host = Host::new(alloc, state, system);
+    let mut host = Host::new(alloc, state);
     echo(rt, &mut host, files)
 }
 

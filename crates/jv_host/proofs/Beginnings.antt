@@ -29,22 +29,22 @@ one_each (bytes ∷ files) [] h = absurd h
 one_each (bytes ∷ files) (content ∷ contents) h = ap suc (one_each files contents h.1)
 
 pub few_of_files :
-    (files : List (Bor (List ℕ))) (judged : Verified) → AreFilesOf [] (map bytes_of files) judged → length files ≤ 1024
-    → length judged.world ≤ 2083
-few_of_files files judged are few =
+    (library : List (List ℕ)) (files : List (Bor (List ℕ))) (judged : Verified) → AreFilesOf library (map bytes_of files) judged
+    → length library ≤ 1024 → length files ≤ 1024 → length judged.world ≤ 2083
+few_of_files library files judged are most few =
     let classes = few_given are.given are.contents judged are.found in
-    let given = one_each [] (map Holds are.given) are.gives.held in
+    let given = one_each library (map Holds are.given) are.gives.held in
     let as_many = length-map are.given Holds in
     let verdicts = are.found.verdicts.count in
     let contents = one_each (map bytes_of files) are.contents are.read in
     let same = count_of_map bytes_of files in
-    omega (arith, classes, given, as_many, verdicts, contents, same, few)
+    omega (arith, classes, given, as_many, most, verdicts, contents, same, few)
 
 -- ---- a guest at its start
 
 pub begun :
     (a : Admitted) (before after : Blocks) → a.feeds.items ≡ [] → a.came ≡ length a.files.input.now → a.came ≤ 16777216
-    → Begins [] (map bytes_of a.files.files.now) a.files.main.now a.files.input.now a.budget before a.guest after
+    → Begins a.files.system.now (map bytes_of a.files.files.now) a.files.main.now a.files.input.now a.budget before a.guest after
     → HasBegun (admission (guest_of a.files) (budget_of a.budget)) a before after
 begun a before after empty came few h = record {
   admission_is = ap (λ (f : List Feed). fed_so f a.guest.steps) no_feeds ∙ ap (λ (n : ℕ). fed_so [] n) h.stands.steps_are;

@@ -1,9 +1,9 @@
 pub mod Beginnings
+pub mod Broken
 pub mod Faultless
 pub mod Feeding
 pub mod Holdings
 pub mod MayBegin
-pub mod NoLibrary
 pub mod Places
 pub mod Rounding
 pub mod RunsNow

@@ -9,15 +9,15 @@ ghost use Rattle.jv_host.specs.Files.{guest_of};
 ghost use Rattle.jv_host.specs.Host.{stepped, fed_now};
 ghost use Rattle.jv_host.specs.Limits.{feed_refusal_of};
 ghost use Rattle.jv_host.specs.Calls.{admission, HadTurn, HadCutTurn};
-ghost use Rattle.jv_host.specs.Inside.Holding.{admission_of, IsSomeHeld, GoesOn, HasBegun, StaysHeld};
+ghost use Rattle.jv_host.specs.Inside.Holding.{admission_of, IsSomeHeld, GoesOn, HasBegun, IsNotBegun, StaysHeld};
 
 use crate::files::GuestFiles;
 use crate::limits::INPUT_BYTES;
 use jv_interp::{Budget, Guest};
-use jv_limits::FeedFault;
-use jv_loader::SystemFiles;
-use jv_meaning_machine::{ended_guest_stays, one_judged};
-use jv_store::{MOST_WORDS, OutOfMemory, Store};
+use jv_limits::{AdmitFault, FeedFault};
+use jv_meaning_machine::{ended_guest_stays, judged_by_verdicts, one_judged};
+use jv_meaning_world::one_content;
+use jv_store::{MOST_WORDS, Store};
 use jv_verify::verify_files;
 use std::alloc::{AllocError, Global};
 use std::hash::RandomState;
@@ -75,26 +75,19 @@ fn has_place<S: Store>(store: &S, words: u32) -> bool
     store.total() + u64::from(words) <= MOST_WORDS
 }
 
-/// Whether there is no library.
-fn is_alone(system: &SystemFiles) -> bool
-    ensures { IsTrue result → system.now ≡ [] }
-{
-    system.library_count() == 0
-}
-
-/// Judges the files of a guest, and begins it.
+/// Judges the files of a guest, and its library beside them, and begins it.
 ///
 /// # Errors
 ///
-/// Where the host had no memory for it, and where its system has a library, which no host runs yet; nothing has then changed.
+/// `LibraryBroken` where the library doesn't stand there, and `HostMemory` where the host had no memory for it; nothing has then changed.
 pub(crate) fn begin<'a, S: Store>(
     alloc: Global,
     state: RandomState,
-    system: &'a SystemFiles,
     files: GuestFiles<'a>,
     budget: Budget,
     store: &mut S,
-) -> Result<Admitted<'a>, OutOfMemory>
+) -> Result<Admitted<'a>, AdmitFault>
+    requires library { length files.system.now ≤ 1024 }
     requires few { length files.files.now ≤ 1024 }
     requires input { length files.input.now ≤ 16777216 }
     requires some { 64 ≤ budget.cells }
@@ -102,20 +95,27 @@ pub(crate) fn begin<'a, S: Store>(
     ensures begun { IfOk result (λ a.
         HasBegun (admission (guest_of files.entry) (budget_of budget)) a (S.content store.old) (S.content store.new)) }
     ensures room { IfOk result (λ a. S.room_left store.new ≡ S.room_left store.old + a.guest.held.cells) }
+    ensures why { IfErr result (IsNotBegun (guest_of files.entry)) }
     ensures refused { OnErr result (S.content store.new ≡ S.content store.old) }
     ensures refused_room { OnErr result (S.room_left store.new ≡ S.room_left store.old) }
 {
-    if !is_alone(system) {
-        return Err(OutOfMemory);
-    }
-    let Ok(judged) = verify_files(alloc, state, system, files.files) else {
-        return Err(OutOfMemory);
+    one_content();
+    judged_by_verdicts();
+    let Ok(judged) = verify_files(alloc, state, files.system, files.files) else {
+        return Err(AdmitFault::HostMemory);
     };
-    judged.system_stands();
-    if !has_place(store, budget.cells) {
-        return Err(OutOfMemory);
+    let Ok(stands) = judged.host_stands(alloc, state) else {
+        return Err(AdmitFault::HostMemory);
+    };
+    if !stands {
+        return Err(AdmitFault::LibraryBroken);
     }
-    let guest = Guest::new(alloc, state, judged, files.main, files.input, budget, store)?;
+    if !has_place(store, budget.cells) {
+        return Err(AdmitFault::HostMemory);
+    }
+    let Ok(guest) = Guest::new(alloc, state, judged, files.main, files.input, budget, store) else {
+        return Err(AdmitFault::HostMemory);
+    };
     Ok(Admitted {
         files,
         budget,

@@ -1,23 +1,22 @@
 //! The host and its calls.
 
-ghost use Rattle.std.specs.Prelude.{◌≡◌, ◌↔◌, [], ◌∷◌, ◌++◌, ℕ, Some, None, Err, true, false, OnOk, OnErr, IfOk, IfErr, IsErr, IsTrue, length, slice_get};
+ghost use Rattle.std.specs.Prelude.{◌≡◌, ◌≢◌, ◌↔◌, [], ◌∷◌, ◌++◌, ℕ, Some, None, Err, true, false, OnOk, OnErr, IfOk, IfErr, IsErr, IsTrue, length, slice_get};
 ghost use Rattle.jv_interp.specs.Started.{budget_of};
 ghost use Rattle.jv_interp.specs.Showing.{observed_of};
 ghost use Rattle.jv_host.specs.Files.{guest_of};
 ghost use Rattle.jv_host.specs.Host.{after_feed};
 ghost use Rattle.jv_host.specs.Calls.{admission, IsTurn, IsCutTurn, IsShown, AreShown, RunsAt, OverAt};
 ghost use Rattle.jv_host.specs.Faultless.{NoGuestFaults};
-ghost use Rattle.jv_host.specs.Limits.{first_refusal, IsRefused, feed_refusal, IsFeedRefused};
+ghost use Rattle.jv_host.specs.Limits.{first_refusal, IsRefused, LibraryStands, feed_refusal, IsFeedRefused};
 
 use crate::admission::{Admitted, begin};
 use crate::files::GuestFiles;
 use crate::limits::first_refusal;
 use jv_interp::{Budget, Observation};
 use jv_limits::{AdmitFault, FeedFault, NoGuest, TurnFault};
-use jv_loader::SystemFiles;
 use jv_meaning_machine::one_judged;
 use jv_meaning_typing::Verdict;
-use jv_sound::never_faults;
+use jv_sound::{never_faults, no_library_stands};
 use jv_store::Store;
 use std::alloc::Global;
 use std::hash::RandomState;
@@ -32,7 +31,6 @@ pub struct GuestId(pub u32);
 pub struct Host<'a, S: Store> {
     alloc: Global,
     state: RandomState,
-    system: &'a SystemFiles,
     store: S,
     guests: Vec<Admitted<'a>>,
 }
@@ -55,7 +53,6 @@ impl<S: Store> Drop for Host<'_, S> {
         let Host {
             alloc: _,
             state: _,
-            system: _,
             store: _,
             guests: _,
         } = self;
@@ -64,13 +61,12 @@ impl<S: Store> Drop for Host<'_, S> {
 
 impl<'a, S: Store> Host<'a, S> {
     /// A host without a guest. Takes no memory. Texts are hashed with the state.
-    pub fn new(alloc: Global, state: RandomState, system: &'a SystemFiles) -> Host<'a, S>
+    pub fn new(alloc: Global, state: RandomState) -> Host<'a, S>
         ensures { result ≡ [] }
     {
         Host {
             alloc,
             state,
-            system,
             store: S::empty(alloc),
             guests: Vec::new(alloc),
         }
@@ -85,9 +81,11 @@ impl<'a, S: Store> Host<'a, S> {
         ensures number { IfOk result (λ id. id.0 ≡ length self.old) }
         ensures admitted { OnOk result (self.new ≡ self.old ++ admission (guest_of files.entry) (budget_of budget) ∷ []) }
         ensures allowed { OnOk result (first_refusal (guest_of files.entry) (budget_of budget) (length self.old) ≡ None) }
+        ensures stands { OnOk result (LibraryStands (guest_of files.entry)) }
         ensures refused { IfErr result (IsRefused (guest_of files.entry) (budget_of budget) (length self.old)) }
         ensures memory { result ≡ Err AdmitFault.HostMemory
             → first_refusal (guest_of files.entry) (budget_of budget) (length self.old) ≡ None }
+        ensures whole { files.entry.system.now ≡ [] → result ≢ Err AdmitFault.LibraryBroken }
         ensures same { OnErr result (self.new ≡ self.old) }
     {
         let count = self.guests.len();
@@ -97,16 +95,8 @@ impl<'a, S: Store> Host<'a, S> {
         let Ok(()) = self.guests.reserve(1) else {
             return Err(AdmitFault::HostMemory);
         };
-        let Ok(admitted) = begin(
-            self.alloc,
-            self.state,
-            self.system,
-            files,
-            budget,
-            &mut self.store,
-        ) else {
-            return Err(AdmitFault::HostMemory);
-        };
+        no_library_stands();
+        let admitted = begin(self.alloc, self.state, files, budget, &mut self.store)?;
         self.guests.push_reserved(admitted);
         Ok(GuestId(count as u32))
     }

@@ -16,6 +16,9 @@ pub(crate) const INPUT_BYTES: usize = 16_777_216;
 /// The most guests.
 const GUESTS: usize = 64;
 
+/// The most files of a library.
+const LIBRARY_FILES: usize = 1024;
+
 fn is_from_to(least: u32, most: u32, n: u32) -> bool
     ensures { result ≡ is_from_to least most n }
 {
@@ -41,7 +44,9 @@ fn has_long_input(files: &GuestFiles<'_>) -> bool
 fn first_other_refusal(files: &GuestFiles<'_>, budget: Budget, guests: usize) -> Option<AdmitFault>
     ensures { result ≡ first_other_refusal (guest_of files.now) (budget_of budget) guests }
 {
-    if has_long_input(files) {
+    if files.system.library_count() > LIBRARY_FILES {
+        Some(AdmitFault::TooManyFiles)
+    } else if has_long_input(files) {
         Some(AdmitFault::InputTooLong)
     } else if !is_in_range(budget) {
         Some(AdmitFault::BudgetOutOfRange)

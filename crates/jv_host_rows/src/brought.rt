@@ -1,6 +1,7 @@
 //! What the guests of a row bring.
 
 use jv_host::Budget;
+use jv_loader::SystemFiles;
 use std::alloc::{AllocError, Global};
 
 /// What a guest brings.
@@ -15,6 +16,7 @@ pub(crate) struct Brought {
 /// The same, lent to a host.
 #[derive(Drop)]
 pub(crate) struct Lent<'a> {
+    pub(crate) system: &'a SystemFiles,
     pub(crate) main: &'a [u8],
     pub(crate) input: &'a [u8],
     pub(crate) files: Vec<&'a [u8]>,
@@ -108,6 +110,7 @@ pub(crate) fn beside_in(alloc: Global, row: &str) -> Result<Vec<Vec<u8>>, AllocE
 /// What a guest brings, as a host takes it, with these files behind its own.
 pub(crate) fn lent_of<'a>(
     alloc: Global,
+    system: &'a SystemFiles,
     guest: &'a Brought,
     beside: &'a [Vec<u8>],
 ) -> Result<Lent<'a>, AllocError> {
@@ -119,6 +122,7 @@ pub(crate) fn lent_of<'a>(
         files.push(file.as_slice())?;
     }
     Ok(Lent {
+        system,
         main: &guest.main,
         input: &guest.input,
         files,

@@ -10,6 +10,7 @@ use std::alloc::AllocError;
 /// A guest's files as they are lent.
 fn files_of<'a>(lent: &'a Lent<'a>) -> GuestFiles<'a> {
     GuestFiles {
+        system: lent.system,
         files: &lent.files,
         main: lent.main,
         input: lent.input,

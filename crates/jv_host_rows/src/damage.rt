@@ -26,7 +26,7 @@ fn shown_of<'a>(
     damaged: &'a Lent<'a>,
     whole: &'a Lent<'a>,
 ) -> Result<(String, String, String), AllocError> {
-    let mut host: Host<'a, Cells> = Host::new(alloc, prepared.state, &prepared.system);
+    let mut host: Host<'a, Cells> = Host::new(alloc, prepared.state);
     let mut out = String::new(alloc);
     write_admission(&mut out, &mut host, damaged)?;
     write_admission(&mut out, &mut host, whole)?;
@@ -52,6 +52,7 @@ fn count<'a>(
     let mut files: Vec<&'a [u8]> = Vec::new(alloc);
     files.push(file)?;
     let damaged = Lent {
+        system: whole.system,
         main: whole.main,
         input: whole.input,
         files,

@@ -40,7 +40,7 @@ fn answers_to<'a, S: Store>(
     lent: &'a [Lent<'a>],
     row: &str,
 ) -> Result<String, AllocError> {
-    let mut host: Host<'a, S> = Host::new(alloc, prepared.state, &prepared.system);
+    let mut host: Host<'a, S> = Host::new(alloc, prepared.state);
     let mut out = String::new(alloc);
     for line in row.lines() {
         calls::answer(&mut out, &mut host, lent, line)?;
@@ -76,7 +76,7 @@ fn show_row(out: &mut String, prepared: &Prepared, row: &str) -> Result<(), Allo
     let beside = beside_in(alloc, row)?;
     let mut lent = Vec::new(alloc);
     for guest in &brought {
-        lent.push(lent_of(alloc, guest, &beside)?)?;
+        lent.push(lent_of(alloc, &prepared.system, guest, &beside)?)?;
     }
     show_lent(out, prepared, &lent, row)
 }

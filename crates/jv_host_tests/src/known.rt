@@ -94,21 +94,33 @@ fn tells_all(alloc: Global, state: RandomState) -> bool {
     true
 }
 
-/// Words, and what the program prints over a class that writes `Hi`, which stands at each path.
-static ROWS: [(&str, &str); 2] = [
+/// Words, and what the program prints over a class that writes `Hi`, which stands at each path, and tells with the errors.
+static ROWS: [(&str, &str, &str); 4] = [
     (
         "jvhost check any other",
         "any: Accepted\nother: Duplicate\n",
+        "",
     ),
     (
         "jvhost run folder",
         "guest 1 folder\n  Hi.class: Accepted\n  steps 0\n  throws 0\n  output 0:\n  end NoMain\n",
+        "",
+    ),
+    (
+        "jvhost run --library lib folder",
+        "",
+        "jvhost: lib/Hi.class: Main\n",
+    ),
+    (
+        "jvhost check any --library lib",
+        "",
+        "jvhost: lib/Hi.class: Main\n",
     ),
 ];
 
 /// Whether the program prints what the rows say.
 fn prints(alloc: Global, state: RandomState) -> bool {
-    for (line, wanted) in &ROWS {
+    for (line, wanted, told) in &ROWS {
         let Ok(words) = words_of(alloc, *line) else {
             return false;
         };
@@ -125,7 +137,7 @@ fn prints(alloc: Global, state: RandomState) -> bool {
             &mut out,
             &mut err,
         );
-        if out.0.as_slice() != wanted.as_bytes() || !err.0.is_empty() {
+        if out.0.as_slice() != wanted.as_bytes() || err.0.as_slice() != told.as_bytes() {
             return false;
         }
     }

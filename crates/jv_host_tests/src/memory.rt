@@ -32,10 +32,23 @@ const BUDGET: Budget = Budget {
     output: 64,
 };
 
-fn guest<'a>(files: &'a [&'a [u8]], main: &'a [u8]) -> GuestFiles<'a> {
+/// A guest's class files, and the name of its main class.
+#[derive(Clone, Copy)]
+struct Brought<'a> {
+    files: &'a [&'a [u8]],
+    main: &'a [u8],
+}
+
+fn guest<'a>(files: &'a [&'a [u8]], main: &'a [u8]) -> Brought<'a> {
+    Brought { files, main }
+}
+
+/// The same on the system's classes, with no input.
+fn files_of<'a>(system: &'a SystemFiles, brought: Brought<'a>) -> GuestFiles<'a> {
     GuestFiles {
-        files,
-        main,
+        system,
+        files: brought.files,
+        main: brought.main,
         input: b"",
     }
 }
@@ -87,11 +100,11 @@ fn ends(
     alloc: Global,
     state: RandomState,
     system: &SystemFiles,
-    files: GuestFiles<'_>,
+    brought: Brought<'_>,
     ending: Ending,
 ) -> bool {
-    let mut host = Host::new(alloc, state, system);
-    is_admitted(&mut host, files)
+    let mut host = Host::new(alloc, state);
+    is_admitted(&mut host, files_of(system, brought))
         && steps_taken(&mut host) == ending.steps
         && has_ended(&host, ending)
 }
@@ -105,9 +118,9 @@ fn system_again(alloc: Global) -> Option<SystemFiles> {
 }
 
 /// Whether a guest ends so.
-fn ends_again(alloc: Global, state: RandomState, files: GuestFiles<'_>, ending: Ending) -> bool {
+fn ends_again(alloc: Global, state: RandomState, brought: Brought<'_>, ending: Ending) -> bool {
     match system_again(alloc) {
-        Some(system) => ends(alloc, state, &system, files, ending),
+        Some(system) => ends(alloc, state, &system, brought, ending),
         None => false,
     }
 }

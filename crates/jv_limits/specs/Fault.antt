@@ -14,6 +14,7 @@ admit_fault_name refusals.FileTooLong = codes "FileTooLong"
 admit_fault_name refusals.InputTooLong = codes "InputTooLong"
 admit_fault_name refusals.BudgetOutOfRange = codes "BudgetOutOfRange"
 admit_fault_name refusals.TooManyGuests = codes "TooManyGuests"
+admit_fault_name refusals.LibraryBroken = codes "LibraryBroken"
 admit_fault_name refusals.HostMemory = codes "HostMemory"
 
 abbrev pub turn_fault_name : TurnFault → List ℕ

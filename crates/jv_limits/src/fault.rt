@@ -22,6 +22,8 @@ pub enum AdmitFault {
     BudgetOutOfRange,
     /// The host holds 64 guests.
     TooManyGuests,
+    /// A class of the guest's library, or one that it lends to, is not accepted beside the guest's files (JVMS 4.10).
+    LibraryBroken,
     /// The host's memory was refused.
     HostMemory,
 }
@@ -64,6 +66,7 @@ impl AdmitFault {
             AdmitFault::InputTooLong => "InputTooLong",
             AdmitFault::BudgetOutOfRange => "BudgetOutOfRange",
             AdmitFault::TooManyGuests => "TooManyGuests",
+            AdmitFault::LibraryBroken => "LibraryBroken",
             AdmitFault::HostMemory => "HostMemory",
         }
     }

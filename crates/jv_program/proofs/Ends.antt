@@ -181,22 +181,27 @@ not_so true refused = absurd (refused refl)
 not_so false refused = refl
 
 -- where nothing is to be told besides, neither option is there
-pub alone : (line : List (List ℕ)) (options : RunOptions) (folders : List (List ℕ)) → AskFor line (run options folders) → (AskForCompany line → ⊥)
+pub alone : (line : List (List ℕ)) (options : RunOptions) (library : Option (List ℕ)) (folders : List (List ℕ)) → AskFor line (run options library folders) → (AskForCompany line → ⊥)
     → (options.progress ≡ false) × (options.time ≡ false)
-alone line options folders asked none =
-    (not_so options.progress (λ yes. none (options, folders, asked, inl yes)), not_so options.time (λ yes. none (options, folders, asked, inr yes)))
+alone line options library folders asked none = (
+  not_so options.progress (λ yes. none (options, library, folders, asked, inl yes)),
+  not_so options.time (λ yes. none (options, library, folders, asked, inr yes)),
+)
 
 -- ---- why there is no report
 
 module _ (disk : Option Disk) (line : List (List ℕ)) (b0 b1 : Option (List ℕ)) where
-  pub run_failed : (options : RunOptions) (folders : List (List ℕ)) (failure : Failure) → AskFor line (run options folders)
-      → IsRunFailure disk (settings_of options) folders b0 b1 failure → IsEarly disk line b0 b1 (Run failure)
-  run_failed options folders failure asked failed = inl (record { options = options; folders = folders; asked = asked; failed = failed })
+  pub run_failed : (options : RunOptions) (library : Option (List ℕ)) (folders : List (List ℕ)) (failure : Failure) → AskFor line (run options library folders)
+      → IsRunFailure disk (settings_of options) library folders b0 b1 failure → IsEarly disk line b0 b1 (Run failure)
+  run_failed options library folders failure asked failed =
+      inl (record { options = options; library = library; folders = folders; asked = asked; failed = failed })
 
-  pub check_failed : (json : Bool) (names : List (List ℕ)) (failure : Failure) → AskFor line (check json names) → IsNamedFailure disk names failure → b1 ≡ b0
-      → IsEarly disk line b0 b1 (Run failure)
-  check_failed json names failure asked failed unread = inr (inl (record { names = names; asked = inl (json, asked); failed = failed; unread = unread }))
+  pub check_failed : (json : Bool) (library : Option (List ℕ)) (names : List (List ℕ)) (failure : Failure) → AskFor line (check json library names)
+      → IsNamedFailure disk library names failure → b1 ≡ b0 → IsEarly disk line b0 b1 (Run failure)
+  check_failed json library names failure asked failed unread =
+      inr (inl (record { library = library; names = names; asked = inl (json, asked); failed = failed; unread = unread }))
 
-  pub explain_failed : (options : ExplainOptions) (names : List (List ℕ)) (failure : Failure) → AskFor line (explain options names) → IsNamedFailure disk names failure → b1 ≡ b0
-      → IsEarly disk line b0 b1 (Run failure)
-  explain_failed options names failure asked failed unread = inr (inl (record { names = names; asked = inr (options, asked); failed = failed; unread = unread }))
+  pub explain_failed : (options : ExplainOptions) (names : List (List ℕ)) (failure : Failure) → AskFor line (explain options names) → IsNamedFailure disk None names failure
+      → b1 ≡ b0 → IsEarly disk line b0 b1 (Run failure)
+  explain_failed options names failure asked failed unread =
+      inr (inl (record { library = None; names = names; asked = inr (options, asked, refl); failed = failed; unread = unread }))

@@ -37,14 +37,15 @@ settings_of options = record {
 -- Else nothing is opened.
 abbrev pub IsBegun : (line : List (List ℕ)) → Type 0
 IsBegun line =
-    ((options : RunOptions) × (folders : List (List ℕ)) × AskFor line (run options folders) × AreTaken (settings_of options) folders)
-    ⊎ (((json : Bool) × (names : List (List ℕ)) × AskFor line (check json names))
+    ((options : RunOptions) × (library : Option (List ℕ)) × (folders : List (List ℕ)) × AskFor line (run options library folders)
+    × AreTaken (settings_of options) folders)
+    ⊎ (((json : Bool) × (library : Option (List ℕ)) × (names : List (List ℕ)) × AskFor line (check json library names))
     ⊎ ((options : ExplainOptions) × (names : List (List ℕ)) × AskFor line (explain options names)))
 
 -- the words ask to run the guests of folders, and to be told besides how far the run is, or how long the processor took
 abbrev pub AskForCompany : (line : List (List ℕ)) → Type 0
 AskForCompany line =
-    (options : RunOptions) × (folders : List (List ℕ)) × AskFor line (run options folders)
+    (options : RunOptions) × (library : Option (List ℕ)) × (folders : List (List ℕ)) × AskFor line (run options library folders)
     × ((options.progress ≡ true) ⊎ (options.time ≡ true))
 
 -- ---- reports
@@ -53,16 +54,18 @@ AskForCompany line =
 -- to the one guest that is fed.
 pub record IsRunReport (disk : Option Disk) (line : List (List ℕ)) (before after : Option (List ℕ)) (outcome : Outcome) : Type 0 where
   pub options : RunOptions
+  pub library : Option (List ℕ)
   pub folders : List (List ℕ)
-  pub asked : AskFor line (run options folders)
-  pub ran : IsRunAs disk (settings_of options) folders before after outcome
+  pub asked : AskFor line (run options library folders)
+  pub ran : IsRunAs disk (settings_of options) library folders before after outcome
 
 -- The words ask to check class files, and the report is on these. Nothing is read of the input.
 pub record IsCheckReport (disk : Option Disk) (line : List (List ℕ)) (before after : Option (List ℕ)) (outcome : Outcome) : Type 0 where
   pub json : Bool
+  pub library : Option (List ℕ)
   pub names : List (List ℕ)
-  pub asked : AskFor line (check json names)
-  pub checked : IsCheckedAs disk json names outcome
+  pub asked : AskFor line (check json library names)
+  pub checked : IsCheckedAs disk json library names outcome
   pub unread : after ≡ before
 
 -- The words ask to explain the verdicts on class files, and the report is on these. Nothing is read of the input.
@@ -84,15 +87,23 @@ IsReport disk line before after outcome =
 -- the words ask to run the guests of folders, and this is why there is no report on them
 pub record IsRunFailed (disk : Option Disk) (line : List (List ℕ)) (before after : Option (List ℕ)) (failure : Failure) : Type 0 where
   pub options : RunOptions
+  pub library : Option (List ℕ)
   pub folders : List (List ℕ)
-  pub asked : AskFor line (run options folders)
-  pub failed : IsRunFailure disk (settings_of options) folders before after failure
+  pub asked : AskFor line (run options library folders)
+  pub failed : IsRunFailure disk (settings_of options) library folders before after failure
 
--- or to check class files, or to explain the verdicts on them
+-- The words ask to check class files, with the library in a folder where one is named, or, without one, to explain the verdicts on them.
+abbrev pub AskForVerdicts : (line : List (List ℕ)) → (library : Option (List ℕ)) → (names : List (List ℕ)) → Type 0
+AskForVerdicts line library names =
+    ((json : Bool) × AskFor line (check json library names))
+    ⊎ ((options : ExplainOptions) × AskFor line (explain options names) × (library ≡ None))
+
+-- the words ask for verdicts on class files, and this is why there is no report on them
 pub record IsCheckFailed (disk : Option Disk) (line : List (List ℕ)) (before after : Option (List ℕ)) (failure : Failure) : Type 0 where
+  pub library : Option (List ℕ)
   pub names : List (List ℕ)
-  pub asked : ((json : Bool) × AskFor line (check json names)) ⊎ ((options : ExplainOptions) × AskFor line (explain options names))
-  pub failed : IsNamedFailure disk names failure
+  pub asked : AskForVerdicts line library names
+  pub failed : IsNamedFailure disk library names failure
   pub unread : after ≡ before
 
 -- Why there is no report on what the words ask for; or the program's memory was refused while the words were read.

@@ -4,7 +4,7 @@ ghost use Rattle.std.specs.Io.KnownBytes.{Appends};
 ghost use Rattle.jv_program_base.specs.Disk.{Disk};
 ghost use Rattle.jv_program_base.specs.Failure.{failure_line};
 ghost use Rattle.jv_program_base.specs.declared.failure.Failure.{Failure};
-ghost use Rattle.jv_program_words.specs.Settings.{IsAskedIn};
+ghost use Rattle.jv_program_words.specs.Settings.{IsAskedIn, text_of};
 ghost use Rattle.jv_limits.specs.Bytes.{bytes_of};
 ghost use Rattle.jv_program_run.specs.Named.{AreTaken, IsRunAs, IsRunFailure};
 ghost use Rattle.jv_program.specs.Command.{AskForCompany, HasEnded, IsBegun, IsReport, settings_of, streams};
@@ -60,14 +60,15 @@ fn run_for<F: Folders, I: Read, P: Company>(
     alloc: Global,
     state: RandomState,
     options: RunOptions,
+    library: Option<&str>,
     named: &[&str],
     folders: &mut F,
     input: &mut I,
     company: &mut P,
 ) -> Result<Outcome, Failure>
-    ensures ok { IfOk result (IsRunAs (F.disk folders.old) (settings_of options) (map bytes_of named.now)
+    ensures ok { IfOk result (IsRunAs (F.disk folders.old) (settings_of options) (text_of library.entry) (map bytes_of named.now)
         (I.remaining input.old) (I.remaining input.new)) }
-    ensures err { IfErr result (IsRunFailure (F.disk folders.old) (settings_of options) (map bytes_of named.now)
+    ensures err { IfErr result (IsRunFailure (F.disk folders.old) (settings_of options) (text_of library.entry) (map bytes_of named.now)
         (I.remaining input.old) (I.remaining input.new)) }
     ensures unread { (AreTaken (settings_of options) (map bytes_of named.now) → ⊥) → folders.new ≡ folders.old }
     ensures alone { options.progress ≡ false → options.time ≡ false → company.new ≡ company.old }
@@ -77,12 +78,16 @@ fn run_for<F: Folders, I: Read, P: Company>(
         company.want_time();
     }
     if options.progress {
-        let made = run_named(alloc, state, settings, named, folders, input, company);
+        let made = run_named(
+            alloc, state, settings, library, named, folders, input, company,
+        );
         company.end();
         made
     } else {
         let unwatched = &mut Unwatched;
-        run_named(alloc, state, settings, named, folders, input, unwatched)
+        run_named(
+            alloc, state, settings, library, named, folders, input, unwatched,
+        )
     }
 }
 
@@ -101,14 +106,17 @@ fn outcome_for<F: Folders, I: Read, P: Company>(
     ensures alone { (AskForCompany (map string_bytes words.now) → ⊥) → company.new ≡ company.old }
 {
     match asked(alloc, words)? {
-        Settings::Run(options, named) => {
+        Settings::Run(options, library, named) => {
             let named = named.as_slice();
-            Ok(run_for(alloc, state, options, named, folders, input, company)?)
+            Ok(run_for(
+                alloc, state, options, library, named, folders, input, company,
+            )?)
         }
-        Settings::Check(json, names) => Ok(check_named(
+        Settings::Check(json, library, names) => Ok(check_named(
             alloc,
             state,
             json,
+            library,
             names.as_slice(),
             folders,
         )?),

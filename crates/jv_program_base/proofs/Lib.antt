@@ -1,4 +1,5 @@
 pub mod ClassFileNames
+pub mod NoLibrary
 pub mod NotRead
 pub mod Opened
 pub mod Places

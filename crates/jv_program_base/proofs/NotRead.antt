@@ -4,7 +4,7 @@ use Rattle.std.specs.Prelude.{All, IfErr, IsPermutation, Result, Ok, Err, filter
 use Rattle.std.proofs.lemmas.List.Elements.{All-cons, All-get_or, All-nil}
 use Rattle.std.proofs.lemmas.List.Sorted.{All-permutation}
 use Rattle.jv_program_base.specs.declared.failure.Failure.{Failure}
-use Rattle.jv_program_base.specs.declared.failure.Failure.TheVariants.{Unreadable, StandardInput, Refused, FeedTooLong, TooManyFolders, NoGuest, HostMemory, OutOfMemory}
+use Rattle.jv_program_base.specs.declared.failure.Failure.TheVariants.{Unreadable, StandardInput, LibraryRefused, Refused, FeedTooLong, TooManyFolders, NoGuest, HostMemory, OutOfMemory}
 use Rattle.jv_limits.specs.Bytes.{bytes_of}
 use Rattle.jv_program_base.specs.Failure.{IsNotRead, IsOneNotRead, IsReadFile, IsUnread}
 use Rattle.jv_program_base.specs.Inside.Reading.{IsOneUnreadIn}
@@ -18,6 +18,7 @@ pub folder_unread : (word : List ℕ) (failure : Failure) → IsUnread word fail
 folder_unread word (Unreadable name) h = inl h
 folder_unread word OutOfMemory h = tt
 folder_unread word StandardInput h = absurd h
+folder_unread word (LibraryRefused name reason) h = absurd h
 folder_unread word (Refused fault) h = absurd h
 folder_unread word FeedTooLong h = absurd h
 folder_unread word TooManyFolders h = absurd h
@@ -28,6 +29,7 @@ pub file_unread : (word file : List ℕ) (failure : Failure) → IsReadFile file
 file_unread word file (Unreadable name) read h = inr (file, read, h)
 file_unread word file OutOfMemory read h = tt
 file_unread word file StandardInput read h = absurd h
+file_unread word file (LibraryRefused name reason) read h = absurd h
 file_unread word file (Refused fault) read h = absurd h
 file_unread word file FeedTooLong read h = absurd h
 file_unread word file TooManyFolders read h = absurd h

@@ -1,12 +1,12 @@
 -- What ends the program without a report.
-use Rattle.std.specs.Prelude.{◌≡◌, ◌⊎◌, ℕ, ⊤, IsTrue, List, ◌∷◌, [], ◌++◌, Some, codes, slice_get}
+use Rattle.std.specs.Prelude.{◌≡◌, ◌⊎◌, ℕ, ⊤, IsTrue, List, ◌∷◌, [], ◌++◌, Some, codes, slice_get, string_bytes}
 use Rattle.jv_limits.specs.declared.fault.AdmitFault.{AdmitFault}
 use Rattle.jv_limits.specs.declared.fault.AdmitFault.TheVariants as refusals
 use Rattle.jv_limits.specs.declared.fault.FeedFault.{FeedFault}
 use Rattle.jv_limits.specs.declared.fault.FeedFault.TheVariants as feeds
 use Rattle.jv_limits.specs.Fault.{admit_fault_name}
 use Rattle.jv_program_base.specs.declared.failure.Failure.{Failure}
-use Rattle.jv_program_base.specs.declared.failure.Failure.TheVariants.{Unreadable, StandardInput, Refused, FeedTooLong, TooManyFolders, NoGuest, HostMemory, OutOfMemory}
+use Rattle.jv_program_base.specs.declared.failure.Failure.TheVariants.{Unreadable, StandardInput, LibraryRefused, Refused, FeedTooLong, TooManyFolders, NoGuest, HostMemory, OutOfMemory}
 use Rattle.jv_program_base.specs.Escape.{escaped_text}
 use Rattle.jv_program_base.specs.Names.{is_class_file}
 
@@ -14,6 +14,7 @@ use Rattle.jv_program_base.specs.Names.{is_class_file}
 abbrev pub failure_status : Failure → ℕ
 failure_status (Unreadable name) = 3
 failure_status StandardInput = 3
+failure_status (LibraryRefused name reason) = 3
 failure_status (Refused fault) = 3
 failure_status FeedTooLong = 3
 failure_status TooManyFolders = 2
@@ -25,6 +26,7 @@ failure_status OutOfMemory = 4
 abbrev pub failure_reason : Failure → List ℕ
 failure_reason (Unreadable name) = escaped_text name.items ++ codes ": cannot be read"
 failure_reason StandardInput = codes "standard input: cannot be read"
+failure_reason (LibraryRefused name reason) = escaped_text name.items ++ codes ": " ++ string_bytes reason
 failure_reason (Refused fault) = admit_fault_name fault
 failure_reason FeedTooLong = codes "InputTooLong"
 failure_reason TooManyFolders = codes "TooManyGuests"

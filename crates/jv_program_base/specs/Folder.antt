@@ -39,6 +39,15 @@ pub record AreClassFilesOf (names : List (List ℕ)) (files : List NamedFile) : 
   pub order : IsSorted (slice_cmp nat_cmp) (map file_name files)
   pub most : All IsReadUpToLimit files
 
+-- the class files in the folder of a word, which isn't empty, with the listing that stands there, of at most 4,294,967,296 bytes
+pub record AreClassFilesIn (disk : Option Disk) (word : List ℕ) (files : List NamedFile) : Type 0 where
+  pub named : word ≢ []
+  pub listing : List ℕ
+  pub most : length listing ≤ 4294967296
+  pub listed : IsListedAt disk (folder_path word) 4294967296 listing
+  pub exact : AreClassFilesOf (names_listed listing) files
+  pub bytes : All (IsFileIn disk word) files
+
 -- The folder of a word, whose listing has these names: its class files are theirs, with the bytes that stand there; its file `main` is
 -- read, and where the name `input` is among them its input; else that is empty.
 pub record IsFolderOf (disk : Option Disk) (word : List ℕ) (names : List (List ℕ)) (folder : Folder) : Type 0 where

@@ -2,6 +2,7 @@ pub mod Disk
 pub mod Escape
 pub mod Failure
 pub mod Folder
+pub mod Library
 pub mod MainName
 pub mod Names
 pub mod Outcome

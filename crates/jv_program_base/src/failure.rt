@@ -15,6 +15,8 @@ pub enum Failure {
     Unreadable(Vec<u8>),
     /// The standard input can't be read.
     StandardInput,
+    /// The library's folder, or the file or class of this name in it, is refused, for this reason.
+    LibraryRefused(Vec<u8>, String),
     /// The host did not admit the guest.
     Refused(AdmitFault),
     /// More was read for a guest than its input may have.
@@ -38,6 +40,7 @@ impl Failure {
             Failure::TooManyFolders | Failure::NoGuest => 2,
             Failure::Unreadable(_)
             | Failure::StandardInput
+            | Failure::LibraryRefused(..)
             | Failure::Refused(_)
             | Failure::FeedTooLong => 3,
             Failure::HostMemory | Failure::OutOfMemory => 4,
@@ -55,6 +58,10 @@ impl fmt::Display for Failure {
                 write!(f, "jvhost: {name}: cannot be read\n")
             }
             Failure::StandardInput => f.write_str("jvhost: standard input: cannot be read\n"),
+            Failure::LibraryRefused(name, reason) => {
+                let name = Escaped(name.as_slice());
+                write!(f, "jvhost: {name}: {reason}\n")
+            }
             Failure::Refused(fault) => write!(f, "jvhost: {fault}\n"),
             Failure::FeedTooLong => f.write_str("jvhost: InputTooLong\n"),
             Failure::TooManyFolders => f.write_str("jvhost: TooManyGuests\n"),

@@ -1,11 +1,11 @@
 //! What a folder holds of a guest.
-ghost use Rattle.std.specs.Prelude.{◌≡◌, ◌≢◌, ◌≤◌, ◌+◌, ◌<◌, ◌^◌, [], ◌∷◌, ◌++◌, ℕ, All, IfErr, IfOk, List, codes, false, true, map, string_bytes, vec_len};
+ghost use Rattle.std.specs.Prelude.{◌≡◌, ◌≢◌, ◌≤◌, ◌+◌, ◌<◌, ◌^◌, [], ◌∷◌, ◌++◌, ℕ, All, IfErr, IfOk, IsOk, List, codes, false, true, map, string_bytes, vec_len};
 ghost use Rattle.std.specs.IoError.{error_kind};
 ghost use Rattle.jv_limits.specs.Bytes.{bytes_of};
 ghost use Rattle.jv_program_base.specs.Failure.{IsNotRead, IsUnread};
 ghost use Rattle.jv_program_base.specs.Inside.Reading.{IsOneUnreadIn};
 ghost use Rattle.jv_program_base.specs.Disk.{IsListedAt, IsReadAt};
-ghost use Rattle.jv_program_base.specs.Folder.{AreClassFilesOf, IsFileIn, IsFolderOf, IsFolderRead, IsReadUpToLimit, file_name};
+ghost use Rattle.jv_program_base.specs.Folder.{AreClassFilesIn, AreClassFilesOf, IsFileIn, IsFolderOf, IsFolderRead, IsReadUpToLimit, file_bytes, file_name};
 ghost use Rattle.jv_program_base.specs.Folder.{folder_path, path_in};
 ghost use Rattle.jv_program_base.specs.Names.{is_listed_name};
 
@@ -49,7 +49,7 @@ pub struct Folder<'a> {
 }
 
 /// The path of a file in a folder.
-fn path_in(alloc: Global, folder: &str, name: &[u8]) -> Result<Vec<u8>, AllocError>
+pub(crate) fn path_in(alloc: Global, folder: &str, name: &[u8]) -> Result<Vec<u8>, AllocError>
     ensures { IfOk result (λ path. path.items ≡ path_in folder.now name.now) }
 {
     let mut path = Vec::from_slice(alloc, folder.as_bytes())?;
@@ -155,6 +155,20 @@ fn read_listing<F: Folders>(
     }
 }
 
+/// The listing of the folder of a word; the empty word is that of no folder.
+fn read_named<F: Folders>(alloc: Global, folders: &mut F, word: &str) -> Result<Vec<u8>, Failure>
+    ensures named { IsOk result → word.now ≢ [] }
+    ensures most { IfOk result (λ listing. vec_len listing ≤ 4294967296) }
+    ensures listed { IfOk result (λ listing. IsListedAt (F.disk folders.old) (folder_path word.now) 4294967296 listing.items) }
+    ensures err { IfErr result (IsUnread word.now) }
+    ensures disk { F.disk folders.new ≡ F.disk folders.old }
+{
+    if word.is_empty() {
+        return Err(Failure::Unreadable(Vec::new(alloc)));
+    }
+    read_listing(alloc, folders, word)
+}
+
 /// A class file of a folder.
 fn read_class_file<F: Folders>(
     alloc: Global,
@@ -234,6 +248,36 @@ fn read_class_files_among<F: Folders>(
     read_class_files(alloc, folders, folder, class_names.as_slice())
 }
 
+/// Reads the class files in the folder of a word, in byte order of their names. What fails first is the failure; the empty word is that of
+/// no folder.
+pub(crate) fn read_class_folder<F: Folders>(
+    alloc: Global,
+    folders: &mut F,
+    word: &str,
+) -> Result<Vec<NamedFile>, Failure>
+    ensures ok { IfOk result (λ files. AreClassFilesIn (F.disk folders.old) word.now files.items) }
+    ensures err { IfErr result (IsNotRead word.now) }
+    ensures disk { F.disk folders.new ≡ F.disk folders.old }
+{
+    let listing = read_named(alloc, folders, word)?;
+    let names = names_in(alloc, listing.as_slice())?;
+    read_class_files_among(alloc, folders, word, names.as_slice())
+}
+
+/// The bytes of class files.
+pub fn bytes_of_files<'a>(
+    alloc: Global,
+    files: &'a [NamedFile],
+) -> Result<Vec<&'a [u8]>, AllocError>
+    ensures { IfOk result (λ found. map bytes_of found.items ≡ map file_bytes files.now) }
+{
+    let mut found = Vec::new(alloc);
+    for file in files {
+        found.push(file.bytes.as_slice())?;
+    }
+    Ok(found)
+}
+
 /// The bytes of the file `main`; one that is longer than the limit can't be read.
 fn read_main<F: Folders>(alloc: Global, folders: &mut F, folder: &str) -> Result<Vec<u8>, Failure>
     ensures most { IfOk result (λ main. vec_len main ≤ 4194304) }
@@ -304,10 +348,7 @@ pub fn read_folder<'a, F: Folders>(
     ensures err { IfErr result (IsNotRead word.now) }
     ensures disk { F.disk folders.new ≡ F.disk folders.old }
 {
-    if word.is_empty() {
-        return Err(Failure::Unreadable(Vec::new(alloc)));
-    }
-    let listing = read_listing(alloc, folders, word)?;
+    let listing = read_named(alloc, folders, word)?;
     let names = names_in(alloc, listing.as_slice())?;
     read_files(alloc, folders, word, names.as_slice())
 }

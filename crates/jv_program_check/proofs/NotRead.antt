@@ -7,7 +7,7 @@ use Rattle.std.specs.Prelude.{IfErr, IsErrAnd, Result, Ok, Err}
 use Rattle.jv_limits.specs.Bytes.{bytes_of}
 use Rattle.jv_program_base.specs.declared.failure.Failure.{Failure}
 use Rattle.jv_program_base.specs.Failure.{IsUnread}
-use Rattle.jv_program_base.specs.declared.failure.Failure.TheVariants.{Unreadable, StandardInput, Refused, FeedTooLong, TooManyFolders, NoGuest, HostMemory, OutOfMemory}
+use Rattle.jv_program_base.specs.declared.failure.Failure.TheVariants.{Unreadable, StandardInput, LibraryRefused, Refused, FeedTooLong, TooManyFolders, NoGuest, HostMemory, OutOfMemory}
 use Rattle.jv_program_check.specs.Named.{IsOneUnread}
 
 -- an error that is handed on
@@ -23,6 +23,7 @@ one_unread names place d (Unreadable unread) within same =
     let found = get_or-map bytes_of names place d unread.items within in
     subst (Contains (map bytes_of names)) (found ∙ sym same) (Contains-get_or (map bytes_of names) place unread.items (omega arith))
 one_unread names place d StandardInput within none = none
+one_unread names place d (LibraryRefused name reason) within none = none
 one_unread names place d (Refused fault) within none = none
 one_unread names place d FeedTooLong within none = none
 one_unread names place d TooManyFolders within none = none

@@ -1,3 +1,4 @@
 pub mod Check
+pub mod Inside
 pub mod Named
 pub mod Text

@@ -3,6 +3,7 @@ use Rattle.std.specs.Prelude.{◌≡◌, ◌⊎◌, ℕ, ⊤, Bool, List, Option
 use Rattle.std.specs.List.{Contains}
 use Rattle.jv_program_check.specs.Check.{IsChecked, IsCheckFailure}
 use Rattle.jv_program_base.specs.Disk.{Disk, IsReadAt}
+use Rattle.jv_program_base.specs.Library.{AreLibraryFiles, IsLibraryFailure}
 use Rattle.jv_program_base.specs.declared.failure.Failure.{Failure}
 use Rattle.jv_program_base.specs.declared.failure.Failure.TheVariants.{Unreadable, OutOfMemory}
 use Rattle.jv_program_base.specs.declared.outcome.Outcome.{Outcome}
@@ -14,11 +15,14 @@ pub record AreFilesAt (disk : Option Disk) (names files : List (List ℕ)) : Typ
       (place : ℕ) (name bytes : List ℕ) → slice_get names place ≡ Some name → slice_get files place ≡ Some bytes
       → IsReadAt disk name 4194304 bytes
 
--- the files of the names were read, and they are checked as the files of one guest
-pub record IsCheckedAs (disk : Option Disk) (json : Bool) (names : List (List ℕ)) (outcome : Outcome) : Type 0 where
+-- the library was read, where a word names one, and the files of the names, and these are checked as the files of one guest
+pub record IsCheckedAs (disk : Option Disk) (json : Bool) (library : Option (List ℕ)) (names : List (List ℕ)) (outcome : Outcome)
+    : Type 0 where
+  pub given : List (List ℕ)
+  pub gives : AreLibraryFiles disk library given
   pub files : List (List ℕ)
   pub read : AreFilesAt disk names files
-  pub checked : IsChecked json names files outcome
+  pub checked : IsChecked json given names files outcome
 
 -- ---- files that are not checked
 
@@ -29,16 +33,20 @@ IsOneUnread names OutOfMemory = ⊤
 IsOneUnread names failure = ⊥
 
 -- why files that have been read were not checked: the program's memory was refused, or what `check_files` says
-abbrev pub IsReadFailure : List (List ℕ) → Failure → Type 0
-IsReadFailure files failure = (failure ≡ OutOfMemory) ⊎ IsCheckFailure files failure
+abbrev pub IsReadFailure : (library files : List (List ℕ)) → Failure → Type 0
+IsReadFailure library files failure = (failure ≡ OutOfMemory) ⊎ IsCheckFailure library files failure
 
--- the files of the names were read, and this is why they were not checked as the files of one guest
-pub record IsCheckFailureOf (disk : Option Disk) (names : List (List ℕ)) (failure : Failure) : Type 0 where
+-- all of them were read, and this is why the files were not checked as those of one guest
+pub record IsCheckFailureOf (disk : Option Disk) (library : Option (List ℕ)) (names : List (List ℕ)) (failure : Failure) : Type 0 where
+  pub given : List (List ℕ)
+  pub gives : AreLibraryFiles disk library given
   pub files : List (List ℕ)
   pub read : AreFilesAt disk names files
-  pub failed : IsReadFailure files failure
+  pub failed : IsReadFailure given files failure
 
--- Why the files of these names were not checked: they were not all read, or it lies with their bytes. So a refusal is the first that
--- applies to these files, and the host's memory is refused only for files within the limits.
-abbrev pub IsNamedFailure : Option Disk → List (List ℕ) → Failure → Type 0
-IsNamedFailure disk names failure = IsOneUnread names failure ⊎ IsCheckFailureOf disk names failure
+-- Why the files of these names were not checked: there is no library in the folder that is named for one; or the files were not all
+-- read; or it lies with their bytes. So a refusal is the first that applies to these files, and the host's memory is refused only for
+-- files within the limits.
+abbrev pub IsNamedFailure : Option Disk → (library : Option (List ℕ)) → (names : List (List ℕ)) → Failure → Type 0
+IsNamedFailure disk library names failure =
+    IsLibraryFailure disk library failure ⊎ (IsOneUnread names failure ⊎ IsCheckFailureOf disk library names failure)

@@ -1,16 +1,19 @@
 //! The verdicts on files, and what is said of them.
-ghost use Rattle.std.specs.Prelude.{◌≡◌, IfErr, IfOk, None, length, map, string_bytes};
+ghost use Rattle.std.specs.Prelude.{◌≡◌, IfErr, IfOk, None, OnOk, length, map, string_bytes};
 ghost use Rattle.std.specs.List.{list_all};
 ghost use Rattle.jv_limits.specs.Bytes.{bytes_of};
-ghost use Rattle.jv_program_check.specs.Check.{AreVerdictsOf, IsChecked, IsCheckFailure, IsHostFailure};
+ghost use Rattle.jv_limits.specs.FileLimits.{first_file_refusal};
+ghost use Rattle.jv_verify.specs.Files.{HostStands};
+ghost use Rattle.jv_program_check.specs.Check.{IsChecked, IsCheckFailure, IsHostFailure};
+ghost use Rattle.jv_program_check.specs.Inside.{IsNotStanding};
 ghost use Rattle.jv_program_check.specs.Text.{check_report, check_status, is_accepted};
 
 use crate::report::Lines;
 use jv_json::{file_values, json_lines};
 use jv_limits::first_file_refusal;
-use jv_loader::system_files;
+use jv_loader::SystemFiles;
 use jv_meaning_typing::Verdict;
-use jv_program_base::{Failure, Outcome};
+use jv_program_base::{Failure, Outcome, ShownVerdict};
 use jv_verify::{Verified, verify_files};
 use std::alloc::{AllocError, Global};
 use std::hash::RandomState;
@@ -36,29 +39,27 @@ pub fn status_of(verdicts: &[Verdict]) -> u8
     if are_accepted(verdicts) { 0 } else { 1 }
 }
 
-/// The verdicts on a guest's files, as a list.
-fn listed(alloc: Global, verified: &Verified<'_>) -> Result<Vec<Verdict>, AllocError>
-    ensures { IfOk result (λ verdicts. verdicts.items ≡ verified.now.verdicts) }
+/// Finds that each class that the host gives is accepted beside a guest's files.
+///
+/// # Errors
+///
+/// `LibraryRefused` with the name of the first that isn't, and its verdict.
+fn stand(alloc: Global, state: RandomState, verified: &Verified<'_>) -> Result<(), Failure>
+    ensures ok { OnOk result (HostStands verified.now) }
+    ensures err { IfErr result (IsNotStanding verified.now) }
 {
-    let mut verdicts = Vec::new(alloc);
-    for file in 0..verified.file_count() {
-        verdicts.push(verified.verdict(file))?;
-    }
-    Ok(verdicts)
-}
-
-/// The verdicts on the files of one guest.
-fn verdicts_of(alloc: Global, state: RandomState, files: &[&[u8]]) -> Result<Vec<Verdict>, Failure>
-    ensures ok { IfOk result (λ verdicts. AreVerdictsOf (map bytes_of files.now) verdicts.items) }
-    ensures err { IfErr result (IsHostFailure (map bytes_of files.now)) }
-{
-    let Ok(system) = system_files(alloc) else {
-        return Err(Failure::OutOfMemory);
-    };
-    let Ok(verified) = verify_files(alloc, state, &system, files) else {
+    let Ok(broken) = verified.first_broken(alloc, state) else {
         return Err(Failure::HostMemory);
     };
-    Ok(listed(alloc, &verified)?)
+    let Some((class, verdict)) = broken else {
+        return Ok(());
+    };
+    // That the number is one of a class is known by this call.
+    let _count = verified.host_count();
+    let name = verified.classes().table().classes()[class].name();
+    let name = Vec::from_slice(alloc, name)?;
+    let reason = ShownVerdict(verdict).to_string(alloc)?;
+    Err(Failure::LibraryRefused(name, reason))
 }
 
 /// The report on files of these names with these verdicts, in JSON or not.
@@ -99,29 +100,48 @@ fn outcome_of(
     })
 }
 
-/// Takes files of these names, as many as there are files, as those of one guest, runs nothing, and says of each what its
-/// verdict is, in JSON or not.
+/// The verdicts on the files of one guest, and what is said of them.
+fn checked(
+    alloc: Global,
+    state: RandomState,
+    system: &SystemFiles,
+    json: bool,
+    names: &[&[u8]],
+    files: &[&[u8]],
+) -> Result<Outcome, Failure>
+    requires { first_file_refusal (map bytes_of files.now) ≡ None }
+    ensures ok { IfOk result (IsChecked json system.now (map bytes_of names.now) (map bytes_of files.now)) }
+    ensures err { IfErr result (IsHostFailure system.now (map bytes_of files.now)) }
+{
+    let Ok(verified) = verify_files(alloc, state, system, files) else {
+        return Err(Failure::HostMemory);
+    };
+    stand(alloc, state, &verified)?;
+    Ok(outcome_of(alloc, json, names, verified.verdicts())?)
+}
+
+/// Takes files of these names, as many as there are files, as those of one guest, runs nothing, and says of each what its verdict is beside
+/// the system's classes and a library's, in JSON or not.
 ///
 /// # Errors
 ///
-/// `Refused` where there are no files, more than 1,024, or one of more than 4,194,304 bytes; else `HostMemory` where the
-/// host had no memory for the classes, and `OutOfMemory` where the program had none for the system's files, the verdicts or the
-/// text.
+/// `Refused` where there are no files, more than 1,024, or one of more than 4,194,304 bytes; else `LibraryRefused` where a class of the
+/// library, or one that it lends to, is not accepted beside them, with its name and verdict; `HostMemory` where the host had no memory for
+/// the classes, and `OutOfMemory` where the program had none for the text.
 pub fn check_files(
     alloc: Global,
     state: RandomState,
+    system: &SystemFiles,
     json: bool,
     names: &[&[u8]],
     files: &[&[u8]],
 ) -> Result<Outcome, Failure>
     requires { length names.now ≡ length files.now }
-    ensures ok { IfOk result (λ outcome.
-        IsChecked json (map bytes_of names.now) (map bytes_of files.now) outcome) }
-    ensures err { IfErr result (λ failure. IsCheckFailure (map bytes_of files.now) failure) }
+    ensures ok { IfOk result (IsChecked json system.now (map bytes_of names.now) (map bytes_of files.now)) }
+    ensures err { IfErr result (IsCheckFailure system.now (map bytes_of files.now)) }
 {
     if let Some(fault) = first_file_refusal(files) {
         return Err(Failure::Refused(fault));
     }
-    let verdicts = verdicts_of(alloc, state, files)?;
-    Ok(outcome_of(alloc, json, names, verdicts.as_slice())?)
+    checked(alloc, state, system, json, names, files)
 }

@@ -1,11 +1,12 @@
 //! Files that are named, read, and checked.
-ghost use Rattle.std.specs.Prelude.{◌≡◌, IfErr, IfOk, length, map};
+ghost use Rattle.std.specs.Prelude.{◌≡◌, IfErr, IfOk, length, map, option_map};
 ghost use Rattle.jv_limits.specs.Bytes.{bytes_of};
 ghost use Rattle.jv_program_check.specs.Check.{IsChecked};
 ghost use Rattle.jv_program_check.specs.Named.{AreFilesAt, IsCheckedAs, IsNamedFailure, IsOneUnread, IsReadFailure};
 
 use crate::checking::check_files;
-use jv_program_base::{Failure, Folders, Outcome, read_class};
+use jv_loader::SystemFiles;
+use jv_program_base::{Failure, Folders, Outcome, read_class, read_library};
 use std::alloc::{AllocError, Global};
 use std::hash::RandomState;
 
@@ -54,36 +55,46 @@ pub fn bytes_of_files<'a>(alloc: Global, files: &'a [Vec<u8>]) -> Result<Vec<&'a
 fn check_read(
     alloc: Global,
     state: RandomState,
+    system: &SystemFiles,
     json: bool,
     names: &[&str],
     files: &[Vec<u8>],
 ) -> Result<Outcome, Failure>
     requires { length names.now ≡ length files.now }
-    ensures ok { IfOk result (λ outcome.
-        IsChecked json (map bytes_of names.now) (map (λ file. file.items) files.now) outcome) }
-    ensures err { IfErr result (IsReadFailure (map (λ file. file.items) files.now)) }
+    ensures ok { IfOk result (IsChecked json system.now (map bytes_of names.now) (map (λ file. file.items) files.now)) }
+    ensures err { IfErr result (IsReadFailure system.now (map (λ file. file.items) files.now)) }
 {
     let names = bytes_of_texts(alloc, names)?;
     let files = bytes_of_files(alloc, files)?;
-    check_files(alloc, state, json, names.as_slice(), files.as_slice())
+    check_files(
+        alloc,
+        state,
+        system,
+        json,
+        names.as_slice(),
+        files.as_slice(),
+    )
 }
 
-/// Reads the files of these names, one for each name, and checks them as those of one guest, with a report in JSON or not.
+/// Reads the library, where a word names its folder, and the files of these names, one for each name, and checks them as those of one
+/// guest, with a report in JSON or not.
 ///
 /// # Errors
 ///
-/// `Unreadable` with the name of a file that can't be read, `OutOfMemory` where the program had no memory to read them, and
-/// else what `check_files` says of the files.
+/// `Unreadable` with the name of a file that can't be read, `LibraryRefused` where there is no library in the folder for it,
+/// `OutOfMemory` where the program had no memory to read them, and else what `check_files` says of the files.
 pub fn check_named<F: Folders>(
     alloc: Global,
     state: RandomState,
     json: bool,
+    library: Option<&str>,
     names: &[&str],
     folders: &mut F,
 ) -> Result<Outcome, Failure>
-    ensures ok { IfOk result (IsCheckedAs (F.disk folders.old) json (map bytes_of names.now)) }
-    ensures err { IfErr result (IsNamedFailure (F.disk folders.old) (map bytes_of names.now)) }
+    ensures ok { IfOk result (IsCheckedAs (F.disk folders.old) json (option_map bytes_of library.entry) (map bytes_of names.now)) }
+    ensures err { IfErr result (IsNamedFailure (F.disk folders.old) (option_map bytes_of library.entry) (map bytes_of names.now)) }
 {
+    let system = read_library(alloc, state, folders, library)?;
     let files = read_classes(alloc, folders, names)?;
-    check_read(alloc, state, json, names, files.as_slice())
+    check_read(alloc, state, &system, json, names, files.as_slice())
 }

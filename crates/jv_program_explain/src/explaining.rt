@@ -1,5 +1,5 @@
 //! The verdicts on files, and what is said of them.
-ghost use Rattle.std.specs.Prelude.{◌≡◌, IfErr, IfOk, None, length, map, string_bytes};
+ghost use Rattle.std.specs.Prelude.{◌≡◌, [], IfErr, IfOk, None, length, map, string_bytes};
 ghost use Rattle.jv_limits.specs.Bytes.{bytes_of};
 ghost use Rattle.jv_limits.specs.FileLimits.{first_file_refusal};
 ghost use Rattle.jv_program_check.specs.Check.{IsCheckFailure, IsHostFailure};
@@ -76,7 +76,7 @@ fn explained(
 ) -> Result<Outcome, Failure>
     requires { first_file_refusal (map bytes_of files.now) ≡ None }
     ensures ok { IfOk result (IsExplained json links (map bytes_of names.now) (map bytes_of files.now)) }
-    ensures err { IfErr result (IsHostFailure (map bytes_of files.now)) }
+    ensures err { IfErr result (IsHostFailure [] (map bytes_of files.now)) }
 {
     let Ok(system) = system_files(alloc) else {
         return Err(Failure::OutOfMemory);
@@ -108,7 +108,7 @@ pub fn explain_files(
     requires { length names.now ≡ length files.now }
     ensures ok { IfOk result (λ outcome.
         IsExplained json links (map bytes_of names.now) (map bytes_of files.now) outcome) }
-    ensures err { IfErr result (λ failure. IsCheckFailure (map bytes_of files.now) failure) }
+    ensures err { IfErr result (λ failure. IsCheckFailure [] (map bytes_of files.now) failure) }
 {
     if let Some(fault) = first_file_refusal(files) {
         return Err(Failure::Refused(fault));

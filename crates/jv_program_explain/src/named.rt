@@ -1,5 +1,5 @@
 //! Files that are named, read, and explained.
-ghost use Rattle.std.specs.Prelude.{◌≡◌, IfErr, IfOk, length, map};
+ghost use Rattle.std.specs.Prelude.{◌≡◌, [], IfErr, IfOk, None, length, map};
 ghost use Rattle.jv_limits.specs.Bytes.{bytes_of};
 ghost use Rattle.jv_program_check.specs.Named.{IsNamedFailure, IsReadFailure};
 ghost use Rattle.jv_program_explain.specs.Explain.{IsExplained};
@@ -23,7 +23,7 @@ fn explain_read(
     requires { length names.now ≡ length files.now }
     ensures ok { IfOk result (λ outcome.
         IsExplained json links (map bytes_of names.now) (map (λ file. file.items) files.now) outcome) }
-    ensures err { IfErr result (IsReadFailure (map (λ file. file.items) files.now)) }
+    ensures err { IfErr result (IsReadFailure [] (map (λ file. file.items) files.now)) }
 {
     let names = bytes_of_texts(alloc, names)?;
     let files = bytes_of_files(alloc, files)?;
@@ -52,7 +52,7 @@ pub fn explain_named<F: Folders>(
     folders: &mut F,
 ) -> Result<Outcome, Failure>
     ensures ok { IfOk result (IsExplainedAs (F.disk folders.old) json links (map bytes_of names.now)) }
-    ensures err { IfErr result (IsNamedFailure (F.disk folders.old) (map bytes_of names.now)) }
+    ensures err { IfErr result (IsNamedFailure (F.disk folders.old) None (map bytes_of names.now)) }
 {
     let files = read_classes(alloc, folders, names)?;
     explain_read(alloc, state, json, links, names, files.as_slice())

@@ -9,7 +9,7 @@ use Rattle.jv_limits.specs.declared.fault.AdmitFault.{AdmitFault}
 use Rattle.jv_limits.specs.declared.fault.AdmitFault.TheVariants as refusals
 use Rattle.jv_host.specs.Host.{Admission}
 use Rattle.jv_host.specs.Calls.{admission}
-use Rattle.jv_host.specs.Limits.{first_refusal}
+use Rattle.jv_host.specs.Limits.{IsRefused, first_refusal}
 use Rattle.jv_program_run.specs.declared.brought.Brought.{Brought}
 use Rattle.jv_program_base.specs.Failure.{failure_of}
 use Rattle.jv_program_run.specs.Guests.{NamedGuest}
@@ -55,17 +55,27 @@ module _ (b : Budget) (guests : List Brought) (k : ℕ) (guest : Brought) (found
   pub allowed_too : first_refusal g b (length host) ≡ None → AreAllowed b (map named_guest_of guests) k → AreAllowed b (map named_guest_of guests) (k + 1)
   allowed_too free before = allowed-more b (map named_guest_of guests) k (named_guest_of guest) in_named (at_place None free) before
 
-  first_of : (fault : AdmitFault) → AreAllowed b (map named_guest_of guests) k → first_refusal g b (length host) ≡ Some fault → IsRefusedAmong b (map named_guest_of guests) fault
-  first_of fault before first =
-      record { place = k; named = named_guest_of guest; found = in_named; before = before; first = at_place (Some fault) first }
+  refused_first : (fault : AdmitFault) → AreAllowed b (map named_guest_of guests) k → IsRefused g b (length host) fault → fault ≢ refusals.HostMemory
+      → IsRefusedAmong b (map named_guest_of guests) fault
+  refused_first fault before first why =
+      let here : IsRefused g b k fault = subst (λ (n : ℕ). IsRefused g b n fault) count first in
+      record {
+        place = k;
+        named = named_guest_of guest;
+        found = in_named;
+        before = before;
+        first = subst (λ (x : GuestFiles). IsRefused x b k fault) is here;
+        why = why;
+      }
 
   -- a refusal of the host, as the program's failure
-  pub refused : (fault : AdmitFault) → AreAllowed b (map named_guest_of guests) k → (fault ≢ refusals.HostMemory → first_refusal g b (length host) ≡ Some fault)
+  pub refused : (fault : AdmitFault) → AreAllowed b (map named_guest_of guests) k → IsRefused g b (length host) fault
       → (fault ≡ refusals.HostMemory → first_refusal g b (length host) ≡ None) → IsAdmitFailure b (map named_guest_of guests) (failure_of fault)
-  refused refusals.NoFiles before first memory = first_of refusals.NoFiles before (first (λ e. cc))
-  refused refusals.TooManyFiles before first memory = first_of refusals.TooManyFiles before (first (λ e. cc))
-  refused refusals.FileTooLong before first memory = first_of refusals.FileTooLong before (first (λ e. cc))
-  refused refusals.InputTooLong before first memory = first_of refusals.InputTooLong before (first (λ e. cc))
-  refused refusals.BudgetOutOfRange before first memory = first_of refusals.BudgetOutOfRange before (first (λ e. cc))
-  refused refusals.TooManyGuests before first memory = first_of refusals.TooManyGuests before (first (λ e. cc))
+  refused refusals.NoFiles before first memory = refused_first refusals.NoFiles before first (λ e. cc)
+  refused refusals.TooManyFiles before first memory = refused_first refusals.TooManyFiles before first (λ e. cc)
+  refused refusals.FileTooLong before first memory = refused_first refusals.FileTooLong before first (λ e. cc)
+  refused refusals.InputTooLong before first memory = refused_first refusals.InputTooLong before first (λ e. cc)
+  refused refusals.BudgetOutOfRange before first memory = refused_first refusals.BudgetOutOfRange before first (λ e. cc)
+  refused refusals.TooManyGuests before first memory = refused_first refusals.TooManyGuests before first (λ e. cc)
+  refused refusals.LibraryBroken before first memory = refused_first refusals.LibraryBroken before first (λ e. cc)
   refused refusals.HostMemory before first memory = allowed-first b (map named_guest_of guests) k (allowed_too (memory refl) before)

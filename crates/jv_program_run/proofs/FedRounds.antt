@@ -13,7 +13,7 @@ use Rattle.jv_host.specs.Host.{Admission, fed_bytes, input_bytes}
 use Rattle.jv_host.specs.Calls.{IsRun, NoneRuns, SomeRuns}
 use Rattle.jv_host.specs.Limits.{feed_refusal, feed_refusal_of}
 use Rattle.jv_program_base.specs.declared.failure.Failure.{Failure}
-use Rattle.jv_program_base.specs.declared.failure.Failure.TheVariants.{Unreadable, StandardInput, Refused, FeedTooLong, TooManyFolders, NoGuest, HostMemory, OutOfMemory}
+use Rattle.jv_program_base.specs.declared.failure.Failure.TheVariants.{Unreadable, StandardInput, LibraryRefused, Refused, FeedTooLong, TooManyFolders, NoGuest, HostMemory, OutOfMemory}
 use Rattle.jv_program_run.specs.Feeding.{IsTooLong, bytes_of_feeds}
 use Rattle.jv_program_run.specs.Inside.Turns.{AreAtStart, IsFedNext, IsFedRun, IsFeedFailure, IsNextFailure, OnlyFed, PlayedSince, ReadSoFar, SomeWent}
 use Rattle.jv_program_run.proofs.AllTurns.{feed_all, only_at_start, only_fed, only_once, run_once, start_all}
@@ -123,6 +123,7 @@ module _ (n r id : ℕ) (old mid : List Admission) (b0 b1 b2 : Option (List ℕ)
   not_fed FeedTooLong h = fed_too_long h.0 h.1 h.2
   not_fed HostMemory h = tt
   not_fed (Unreadable name) h = absurd h
+  not_fed (LibraryRefused name reason) h = absurd h
   not_fed (Refused fault) h = absurd h
   not_fed TooManyFolders h = absurd h
   not_fed NoGuest h = absurd h

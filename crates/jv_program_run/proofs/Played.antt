@@ -11,7 +11,7 @@ use Rattle.jv_host.specs.Host.{Admission, input_bytes}
 use Rattle.jv_host.specs.Calls.{NoneRuns}
 use Rattle.jv_host.proofs.Places.{same_or_other}
 use Rattle.jv_program_base.specs.declared.failure.Failure.{Failure}
-use Rattle.jv_program_base.specs.declared.failure.Failure.TheVariants.{Unreadable, StandardInput, Refused, FeedTooLong, TooManyFolders, NoGuest, HostMemory, OutOfMemory}
+use Rattle.jv_program_base.specs.declared.failure.Failure.TheVariants.{Unreadable, StandardInput, LibraryRefused, Refused, FeedTooLong, TooManyFolders, NoGuest, HostMemory, OutOfMemory}
 use Rattle.jv_program_run.specs.declared.settings.RunSettings.{RunSettings}
 use Rattle.jv_program_run.specs.Feeding.{AreFeedsFrom, IsTooLong, feeds_to, is_no_guest}
 use Rattle.jv_program_run.specs.Guests.{NamedGuest}
@@ -84,6 +84,7 @@ module _ (b : Budget) (guests : List NamedGuest) (host : List Admission) (starte
       )
   feeding_failed (Some other) number b0 b1 HostMemory is h = λ e. cc
   feeding_failed (Some other) number b0 b1 (Unreadable name) is h = absurd h
+  feeding_failed (Some other) number b0 b1 (LibraryRefused name reason) is h = absurd h
   feeding_failed (Some other) number b0 b1 (Refused fault) is h = absurd h
   feeding_failed (Some other) number b0 b1 TooManyFolders is h = absurd h
   feeding_failed (Some other) number b0 b1 NoGuest is h = absurd h
@@ -162,6 +163,7 @@ module _ (s : RunSettings) (guests : List NamedGuest) (b0 : Option (List ℕ)) w
   not_admitted StandardInput h = absurd h
   not_admitted FeedTooLong h = absurd h
   not_admitted (Unreadable name) h = absurd h
+  not_admitted (LibraryRefused name reason) h = absurd h
   not_admitted TooManyFolders h = absurd h
   not_admitted NoGuest h = absurd h
   not_admitted OutOfMemory h = absurd h
@@ -176,6 +178,7 @@ module _ (s : RunSettings) (guests : List NamedGuest) (b0 b1 : Option (List ℕ)
   not_played FeedTooLong all h = (all, h)
   not_played HostMemory all h = first_allowed all
   not_played (Unreadable name) all h = absurd h
+  not_played (LibraryRefused name reason) all h = absurd h
   not_played (Refused fault) all h = absurd h
   not_played TooManyFolders all h = absurd h
   not_played NoGuest all h = absurd h

@@ -11,15 +11,15 @@ use Rattle.jv_program_run.specs.declared.settings.RunSettings.{RunSettings}
 use Rattle.jv_program_run.proofs.Played.{one_of}
 use Rattle.jv_program_run.proofs.Read.{none_lacks}
 
-pub ready_one : (number : ℕ) (folders news : List Folder) (one found : Folder) (before after : Option (List ℕ)) → slice_get folders (number - 1) ≡ Some one
-    → news ≡ set folders (number - 1) found → IsReadBehind (named_guest one) (named_guest found) before after
-    → AreReady (Some number) (map named_guest folders) (map named_guest news) before after
-ready_one number folders news one found before after at is behind = (
-  named_guest one,
-  named_guest found,
-  slice_get-map named_guest folders (number - 1) ∙ ap (option_map named_guest) at,
+pub ready_one : (library : List (List ℕ)) (number : ℕ) (folders news : List Folder) (one found : Folder) (before after : Option (List ℕ)) → slice_get folders (number - 1) ≡ Some one
+    → news ≡ set folders (number - 1) found → IsReadBehind (named_guest library one) (named_guest library found) before after
+    → AreReady (Some number) (map (named_guest library) folders) (map (named_guest library) news) before after
+ready_one library number folders news one found before after at is behind = (
+  named_guest library one,
+  named_guest library found,
+  slice_get-map (named_guest library) folders (number - 1) ∙ ap (option_map (named_guest library)) at,
   behind,
-  ap (map named_guest) is ∙ map-set named_guest folders (number - 1) found,
+  ap (map (named_guest library)) is ∙ map-set (named_guest library) folders (number - 1) found,
 )
 
 raw_of : (stdin raw : Option ℕ) (number : ℕ) → (elim stdin [ Some other ↦ None | None ↦ raw ]) ≡ Some number → raw ≡ Some number
@@ -36,11 +36,11 @@ on_ok : {T E : Type 0} (r : Result T E) (P Q : Type 0) → (P → Q) → OnOk r 
 on_ok (Ok x) P Q f h = f h
 on_ok (Err e) P Q f h = tt
 
-pub ready_where : {T E : Type 0} (s : RunSettings) (number : ℕ) (folders : List Folder) (one found : Folder) (r : Result T E) (before after : Option (List ℕ))
-    → reads_all s ≡ Some number → slice_get folders (number - 1) ≡ Some one → OnOk r (IsReadBehind (named_guest one) (named_guest found) before after)
-    → OnOk r (AreReady (reads_all s) (map named_guest folders) (map named_guest (set folders (number - 1) found)) before after)
-ready_where s number folders one found r before after e at h =
-    on_ok r (IsReadBehind (named_guest one) (named_guest found) before after)
-    (AreReady (reads_all s) (map named_guest folders) (map named_guest (set folders (number - 1) found)) before after)
-    (λ behind. subst (λ (o : Option ℕ). AreReady o (map named_guest folders) (map named_guest (set folders (number - 1) found)) before after) (sym e)
-    (ready_one number folders (set folders (number - 1) found) one found before after at refl behind)) h
+pub ready_where : {T E : Type 0} (library : List (List ℕ)) (s : RunSettings) (number : ℕ) (folders : List Folder) (one found : Folder) (r : Result T E) (before after : Option (List ℕ))
+    → reads_all s ≡ Some number → slice_get folders (number - 1) ≡ Some one → OnOk r (IsReadBehind (named_guest library one) (named_guest library found) before after)
+    → OnOk r (AreReady (reads_all s) (map (named_guest library) folders) (map (named_guest library) (set folders (number - 1) found)) before after)
+ready_where library s number folders one found r before after e at h =
+    on_ok r (IsReadBehind (named_guest library one) (named_guest library found) before after)
+    (AreReady (reads_all s) (map (named_guest library) folders) (map (named_guest library) (set folders (number - 1) found)) before after)
+    (λ behind. subst (λ (o : Option ℕ). AreReady o (map (named_guest library) folders) (map (named_guest library) (set folders (number - 1) found)) before after) (sym e)
+    (ready_one library number folders (set folders (number - 1) found) one found before after at refl behind)) h

@@ -2,7 +2,7 @@
 use Rattle.std.specs.Prelude.{◌≡◌, ◌≢◌, ◌⊎◌, ℕ, ◌<◌, ◌≤◌, ◌-◌, Bool, false, true, ◌||◌, List, ◌++◌, Option, Some, None, length, map, set, slice_get}
 use Rattle.std.specs.Io.KnownBytes.{Consumes, IsAtEnd}
 use Rattle.jv_program_base.specs.declared.failure.Failure.{Failure}
-use Rattle.jv_program_base.specs.declared.failure.Failure.TheVariants.{Unreadable, TooManyFolders, NoGuest, OutOfMemory, StandardInput}
+use Rattle.jv_program_base.specs.declared.failure.Failure.TheVariants.{Unreadable, LibraryRefused, TooManyFolders, NoGuest, OutOfMemory, StandardInput}
 use Rattle.jv_program_base.specs.declared.folder.Folder.{Folder}
 use Rattle.jv_program_base.specs.declared.outcome.Outcome.{Outcome}
 use Rattle.jv_program_run.specs.declared.settings.RunSettings.{RunSettings}
@@ -10,6 +10,7 @@ use Rattle.jv_program_base.specs.Disk.{Disk}
 use Rattle.jv_program_base.specs.Failure.{IsOneNotRead}
 use Rattle.jv_program_run.specs.Feeding.{is_no_guest}
 use Rattle.jv_program_base.specs.Folder.{IsFolderRead}
+use Rattle.jv_program_base.specs.Library.{AreLibraryFiles, IsLibraryFailure}
 use Rattle.jv_program_run.specs.Guests.{NamedGuest, named_guest}
 use Rattle.jv_program_run.specs.Outcome.{IsGuestsFailure, IsRunOutcome}
 
@@ -56,38 +57,48 @@ AreReady (Some number) own guests before after =
 abbrev pub IsInputFailure : Failure → Type 0
 IsInputFailure failure = (failure ≡ StandardInput) ⊎ (failure ≡ OutOfMemory)
 
--- The folders of the words were read, and the input of the guest that has all of it, and the report is on these guests.
-pub record IsRunAs (disk : Option Disk) (s : RunSettings) (words : List (List ℕ)) (before after : Option (List ℕ)) (outcome : Outcome)
-    : Type 0 where
+-- The library was read, where a word names one, and the folders of the words, and the input of the guest that has all of it, and the
+-- report is on these guests.
+pub record IsRunAs (disk : Option Disk) (s : RunSettings) (library : Option (List ℕ)) (words : List (List ℕ))
+    (before after : Option (List ℕ)) (outcome : Outcome) : Type 0 where
   pub taken : AreTaken s words
+  pub given : List (List ℕ)
+  pub gives : AreLibraryFiles disk library given
   pub folders : List Folder
   pub read : AreFoldersOf disk words folders
   pub guests : List NamedGuest
   pub middle : Option (List ℕ)
-  pub ready : AreReady (reads_all s) (map named_guest folders) guests before middle
+  pub ready : AreReady (reads_all s) (map (named_guest given) folders) guests before middle
   pub ran : IsRunOutcome s guests middle after outcome
 
 -- ---- words of which there is no report
 
--- the folders of the words were read, and the input of the guest that has all of it, and this is why there is no report on these guests
-pub record IsFailureOf (disk : Option Disk) (s : RunSettings) (words : List (List ℕ)) (before after : Option (List ℕ)) (failure : Failure)
-    : Type 0 where
+-- all of these were read, and this is why there is no report on these guests
+pub record IsFailureOf (disk : Option Disk) (s : RunSettings) (library : Option (List ℕ)) (words : List (List ℕ))
+    (before after : Option (List ℕ)) (failure : Failure) : Type 0 where
   pub taken : AreTaken s words
+  pub given : List (List ℕ)
+  pub gives : AreLibraryFiles disk library given
   pub folders : List Folder
   pub read : AreFoldersOf disk words folders
   pub guests : List NamedGuest
   pub middle : Option (List ℕ)
-  pub ready : AreReady (reads_all s) (map named_guest folders) guests before middle
+  pub ready : AreReady (reads_all s) (map (named_guest given) folders) guests before middle
   pub failed : IsGuestsFailure s guests middle after failure
 
--- Why there is no report on the folders of these words: there are more than 64; or none of a guest that the settings name; or a folder,
--- or a file in it, can't be read; all this before anything is read of the input. Or the input can't be read for the guest that has all of
--- it. Else it lies with the guests. Or the program's memory was refused, on the way to any of these.
-abbrev pub IsRunFailure : Option Disk → RunSettings → (words : List (List ℕ)) → (before after : Option (List ℕ)) → Failure → Type 0
-IsRunFailure disk s words before after TooManyFolders = (64 < length words) × (after ≡ before)
-IsRunFailure disk s words before after NoGuest = (length words ≤ 64) × (lacks_guest s (length words) ≡ true) × (after ≡ before)
-IsRunFailure disk s words before after (Unreadable name) = AreTaken s words × IsOneNotRead words (Unreadable name) × (after ≡ before)
-IsRunFailure disk s words before after StandardInput =
-    (AreTaken s words × (reads_all s ≢ None)) ⊎ IsFailureOf disk s words before after StandardInput
-IsRunFailure disk s words before after OutOfMemory = AreTaken s words
-IsRunFailure disk s words before after failure = IsFailureOf disk s words before after failure
+-- Why there is no report on the folders of these words: there are more than 64; or none of a guest that the settings name; or there is no
+-- library in the folder that is named for one; or a folder, or a file in it, can't be read; all this before anything is read of the input.
+-- Or the input can't be read for the guest that has all of it. Else it lies with the guests. Or the program's memory was refused, on the
+-- way to any of these.
+abbrev pub IsRunFailure :
+    Option Disk → RunSettings → (library : Option (List ℕ)) → (words : List (List ℕ)) → (before after : Option (List ℕ)) → Failure → Type 0
+IsRunFailure disk s library words before after TooManyFolders = (64 < length words) × (after ≡ before)
+IsRunFailure disk s library words before after NoGuest = (length words ≤ 64) × (lacks_guest s (length words) ≡ true) × (after ≡ before)
+IsRunFailure disk s library words before after (Unreadable name) =
+    AreTaken s words × (IsLibraryFailure disk library (Unreadable name) ⊎ IsOneNotRead words (Unreadable name)) × (after ≡ before)
+IsRunFailure disk s library words before after (LibraryRefused name reason) =
+    AreTaken s words × IsLibraryFailure disk library (LibraryRefused name reason) × (after ≡ before)
+IsRunFailure disk s library words before after StandardInput =
+    (AreTaken s words × (reads_all s ≢ None)) ⊎ IsFailureOf disk s library words before after StandardInput
+IsRunFailure disk s library words before after OutOfMemory = AreTaken s words
+IsRunFailure disk s library words before after failure = IsFailureOf disk s library words before after failure

@@ -6,9 +6,10 @@ use Rattle.jv_meaning_machine.specs.Alone.{GuestFiles, Feed}
 use Rattle.jv_meaning_machine.specs.Observation.{Observed, Shows}
 use Rattle.jv_host.specs.Started.{budget_of}
 use Rattle.jv_limits.specs.declared.fault.AdmitFault.{AdmitFault}
-use Rattle.jv_host.specs.Limits.{first_refusal}
+use Rattle.jv_limits.specs.declared.fault.AdmitFault.TheVariants as refusals
+use Rattle.jv_host.specs.Limits.{IsRefused, first_refusal}
 use Rattle.jv_program_base.specs.declared.failure.Failure.{Failure}
-use Rattle.jv_program_base.specs.declared.failure.Failure.TheVariants.{Unreadable, StandardInput, Refused, FeedTooLong, TooManyFolders, NoGuest, HostMemory, OutOfMemory}
+use Rattle.jv_program_base.specs.declared.failure.Failure.TheVariants.{Unreadable, StandardInput, LibraryRefused, Refused, FeedTooLong, TooManyFolders, NoGuest, HostMemory, OutOfMemory}
 use Rattle.jv_program_base.specs.declared.outcome.Outcome.{Outcome}
 use Rattle.jv_program_base.specs.Outcome.{raw_bytes}
 use Rattle.jv_program_run.specs.declared.settings.RunSettings.{RunSettings}
@@ -71,13 +72,14 @@ pub record IsRunOutcome (s : RunSettings) (guests : List NamedGuest) (before aft
 
 -- ---- guests of which there is no report
 
--- a guest is refused, for the first reason that applies, and none before it is
+-- a guest is refused, for the first reason that applies, the last of which is that its library doesn't stand, and none before it is
 pub record IsRefusedAmong (b : Budget) (guests : List NamedGuest) (fault : AdmitFault) : Type 0 where
   pub place : ℕ
   pub named : NamedGuest
   pub found : slice_get guests place ≡ Some named
   pub before : AreAllowed b guests place
-  pub first : first_refusal named.guest b place ≡ Some fault
+  pub first : IsRefused named.guest b place fault
+  pub why : fault ≢ refusals.HostMemory
 
 -- more came for the guest that is fed than it may have
 abbrev pub IsOverfed : Option ℕ → List NamedGuest → (before after : Option (List ℕ)) → Type 0
@@ -97,6 +99,7 @@ IsFeedingFailure stdin guests before after failure = ⊥
 -- was too long, or nothing could be read; or the host had no memory, and would have the first of them at least; or the program had none.
 abbrev pub IsGuestsFailure : RunSettings → List NamedGuest → (before after : Option (List ℕ)) → Failure → Type 0
 IsGuestsFailure s guests before after (Unreadable name) = ⊥
+IsGuestsFailure s guests before after (LibraryRefused name reason) = ⊥
 IsGuestsFailure s guests before after StandardInput = AreAllowed (budget_of s.budget) guests (length guests) × (s.stdin ≢ None)
 IsGuestsFailure s guests before after (Refused fault) = IsRefusedAmong (budget_of s.budget) guests fault × (after ≡ before)
 IsGuestsFailure s guests before after FeedTooLong =

@@ -1,5 +1,5 @@
 //! The standard input as a guest's own.
-ghost use Rattle.std.specs.Prelude.{◌≡◌, ◌≢◌, false, IfErr, None, OnOk, length, map};
+ghost use Rattle.std.specs.Prelude.{◌≡◌, ◌≢◌, ℕ, false, IfErr, List, None, OnOk, length, map};
 ghost use Rattle.jv_program_run.specs.Guests.{named_guest};
 ghost use Rattle.jv_program_run.specs.Named.{AreReady, IsInputFailure, IsReadBehind, lacks_guest, reads_all};
 
@@ -28,8 +28,8 @@ fn read_behind<I: Read>(
     folder: &mut Folder<'_>,
     input: &mut I,
 ) -> Result<(), Failure>
-    ensures ok { OnOk result
-        (IsReadBehind (named_guest folder.old) (named_guest folder.new) (I.remaining input.old) (I.remaining input.new)) }
+    ensures ok { (library : List (List ℕ)) → OnOk result (IsReadBehind (named_guest library folder.old) (named_guest library folder.new)
+        (I.remaining input.old) (I.remaining input.new)) }
     ensures err { IfErr result IsInputFailure }
 {
     let bytes = match read_past_limit(alloc, input, INPUT_LIMIT) {
@@ -53,8 +53,8 @@ pub(crate) fn read_input<I: Read>(
     input: &mut I,
 ) -> Result<(), Failure>
     requires { lacks_guest settings (length folders.old) ≡ false }
-    ensures ok { OnOk result (AreReady (reads_all settings) (map named_guest folders.old) (map named_guest folders.new)
-        (I.remaining input.old) (I.remaining input.new)) }
+    ensures ok { (library : List (List ℕ)) → OnOk result (AreReady (reads_all settings) (map (named_guest library) folders.old)
+        (map (named_guest library) folders.new) (I.remaining input.old) (I.remaining input.new)) }
     ensures count { length folders.new ≡ length folders.old }
     ensures err { IfErr result (λ failure. IsInputFailure failure × (reads_all settings ≢ None)) }
 {

@@ -85,7 +85,6 @@ fn said_of(
 fn run_guests<'a, I: Read, W: Watch>(
     alloc: Global,
     state: RandomState,
-    system: &'a SystemFiles,
     settings: RunSettings,
     guests: &'a [Brought<'_>],
     input: &mut I,
@@ -99,15 +98,15 @@ fn run_guests<'a, I: Read, W: Watch>(
     ensures err { IfErr result
         (IsGuestsFailure settings (map named_guest_of guests.now) (I.remaining input.old) (I.remaining input.new)) }
 {
-    let mut host = Host::new(alloc, state, system);
+    let mut host = Host::new(alloc, state);
     play(&mut host, guests, settings, input, watch)?;
     Ok(said_of(alloc, &host, guests, settings)?)
 }
 
-/// Runs the guests of folders, at most 64, in one host, and reports them in the order of the folders. Names are hashed with
-/// the state. Before each round of turns, as long as a guest takes steps and until the input ends, the guest with the number in the
-/// settings is fed what one read of the input gives. A watch sees the rounds. With the report goes the output of the guest whose output
-/// the settings want as it is.
+/// Runs the guests of folders, at most 64, in one host, each on the system's files and the library with them, and reports them in the order
+/// of the folders. Names are hashed with the state. Before each round of turns, as long as a guest takes steps and until the input ends,
+/// the guest with the number in the settings is fed what one read of the input gives. A watch sees the rounds. With the report goes the
+/// output of the guest whose output the settings want as it is.
 ///
 /// # Errors
 ///
@@ -127,18 +126,10 @@ pub fn run_folders<I: Read, W: Watch>(
     requires fed { is_no_guest settings.stdin (length folders.now) ≡ false }
     requires raw { is_no_guest settings.raw (length folders.now) ≡ false }
     ensures ok { IfOk result
-        (IsRunOutcome settings (map named_guest folders.now) (I.remaining input.old) (I.remaining input.new)) }
+        (IsRunOutcome settings (map (named_guest system.now) folders.now) (I.remaining input.old) (I.remaining input.new)) }
     ensures err { IfErr result
-        (IsGuestsFailure settings (map named_guest folders.now) (I.remaining input.old) (I.remaining input.new)) }
+        (IsGuestsFailure settings (map (named_guest system.now) folders.now) (I.remaining input.old) (I.remaining input.new)) }
 {
-    let guests = all_brought_by(alloc, folders)?;
-    run_guests(
-        alloc,
-        state,
-        system,
-        settings,
-        guests.as_slice(),
-        input,
-        watch,
-    )
+    let guests = all_brought_by(alloc, system, folders)?;
+    run_guests(alloc, state, settings, guests.as_slice(), input, watch)
 }

@@ -1,7 +1,7 @@
 -- The command line (own), as a simple command of the library `clap`, which reads it:
---     jvhost run [--cells N] [--words N] [--output N] [--quantum N] [--rounds N] [--stdin K] [--raw K] [--json] [--progress] [--time]
---         FOLDER...
---     jvhost check [--json] FILE...
+--     jvhost run [--library FOLDER] [--cells N] [--words N] [--output N] [--quantum N] [--rounds N] [--stdin K] [--raw K] [--json]
+--         [--progress] [--time] FOLDER...
+--     jvhost check [--library FOLDER] [--json] FILE...
 --     jvhost explain [--json] [--links] FILE...
 use Rattle.std.specs.Prelude.{ℕ, true, List, Some, codes, pos}
 use Rattle.clap.specs.Lexer.{usize_max}
@@ -22,6 +22,10 @@ number_option name least most = record (new_rule name) {
   parser = Some (parsers.Signed (pos least) (pos most));
 }
 
+-- the option `--NAME WORD`
+abbrev pub word_option : (name : List ℕ) → Rule
+word_option name = record (new_rule name) { long = Some name; value_names = 1 }
+
 -- the option `--NAME`, which takes nothing: it is there, or it isn't
 abbrev pub flag : (name : List ℕ) → Rule
 flag name = record (new_rule name) { long = Some name; action = Some SetTrue }
@@ -37,6 +41,10 @@ one_or_more name = record (new_rule name) {
 -- an option with a number of 32 bits, which is at least so much
 abbrev pub with_number : List ℕ → (least : ℕ) → App → App
 with_number name least line = with_rule line (number_option name least most_of_32_bits)
+
+-- with names, one or more, and with the folder of a library
+abbrev pub with_names : List ℕ → App → App
+with_names name line = with_rule (with_rule line (one_or_more name)) (word_option (codes "library"))
 
 -- with the budget of each guest
 abbrev pub with_budget : App → App
@@ -68,10 +76,10 @@ with_company line = with_rule (with_rule line (flag (codes "progress"))) (flag (
 
 abbrev pub run_line : App
 run_line =
-    with_company (with_streams (with_steps (with_budget (with_rule (new_app (codes "run")) (one_or_more (codes "folder"))))))
+    with_company (with_streams (with_steps (with_budget (with_names (codes "folder") (new_app (codes "run"))))))
 
 abbrev pub check_line : App
-check_line = with_form (with_rule (new_app (codes "check")) (one_or_more (codes "file")))
+check_line = with_form (with_names (codes "file") (new_app (codes "check")))
 
 abbrev pub explain_line : App
 explain_line = with_links (with_form (with_rule (new_app (codes "explain")) (one_or_more (codes "file"))))

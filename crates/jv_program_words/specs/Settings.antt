@@ -1,5 +1,5 @@
 -- What the words of the command line ask for (own).
-use Rattle.std.specs.Prelude.{◌≡◌, ◌⊎◌, ℕ, Bool, false, if◌then◌else◌, List, [], map, Option, Some, None, option_and_then, option_map, codes}
+use Rattle.std.specs.Prelude.{◌≡◌, ◌⊎◌, ℕ, Bool, false, if◌then◌else◌, List, [], map, Option, Some, None, option_and_then, option_map, slice_get, codes}
 use Rattle.std.specs.Borrow.{Bor}
 use Rattle.std.specs.Global.{Vec}
 use Rattle.std.specs.Str.{bytes_eq}
@@ -96,20 +96,27 @@ options_in rows =
 abbrev pub explain_options_in : List Row → ExplainOptions
 explain_options_in rows = record { json = is_flag_in rows (codes "json"); links = is_flag_in rows (codes "links") }
 
+-- the word of an option, where it is used
+abbrev pub word_in : List Row → (name : List ℕ) → Option (List ℕ)
+word_in rows name = option_and_then (λ words. slice_get words 0) (all_of name rows)
+
 -- ---- what is asked for
 
--- to run the guests in folders, to check files, with a report in JSON or not, or to explain the verdicts on them
+-- to run the guests in folders, to check files, with a report in JSON or not, both with the library in a folder where one is named, or to
+-- explain the verdicts on files
 pub data Asked : Type 0 where
-  run : RunOptions → (folders : List (List ℕ)) → Asked
-  check : (json : Bool) → (files : List (List ℕ)) → Asked
+  run : RunOptions → (library : Option (List ℕ)) → (folders : List (List ℕ)) → Asked
+  check : (json : Bool) → (library : Option (List ℕ)) → (files : List (List ℕ)) → Asked
   explain : ExplainOptions → (files : List (List ℕ)) → Asked
 
 -- what a command asks for, by its name and the rows of its arguments
 abbrev pub asked_by : List ℕ × List Row → Option Asked
 asked_by (name, rows) =
     if bytes_eq name (codes "run")
-    then option_and_then (λ options. option_map (run options) (all_of (codes "folder") rows)) (options_in rows)
-    else if bytes_eq name (codes "check") then option_map (check (is_flag_in rows (codes "json"))) (all_of (codes "file") rows)
+    then option_and_then (λ options. option_map (run options (word_in rows (codes "library"))) (all_of (codes "folder") rows))
+    (options_in rows)
+    else if bytes_eq name (codes "check")
+    then option_map (check (is_flag_in rows (codes "json")) (word_in rows (codes "library"))) (all_of (codes "file") rows)
     else if bytes_eq name (codes "explain") then option_map (explain (explain_options_in rows)) (all_of (codes "file") rows)
     else None
 
@@ -117,6 +124,10 @@ asked_by (name, rows) =
 -- and options.
 abbrev pub asked_in : (words : List (List ℕ)) → Option Asked
 asked_in words = option_and_then asked_by (subcommand_of command_line words)
+
+-- the text of a name, where there is one
+abbrev pub text_of : Option (Bor (List ℕ)) → Option (List ℕ)
+text_of name = option_map (λ n. n.now) name
 
 -- the texts of these names
 abbrev pub texts_of : Vec (Bor (List ℕ)) → List (List ℕ)
@@ -128,8 +139,8 @@ AreNames texts names = option_map texts_of names ≡ texts
 
 -- what settings ask for
 abbrev pub asked_of : Settings → Asked
-asked_of (settings.Run options folders) = run options (texts_of folders)
-asked_of (settings.Check json files) = check json (texts_of files)
+asked_of (settings.Run options library folders) = run options (text_of library) (texts_of folders)
+asked_of (settings.Check json library files) = check json (text_of library) (texts_of files)
 asked_of (settings.Explain options files) = explain options (texts_of files)
 
 -- the settings are what is asked for

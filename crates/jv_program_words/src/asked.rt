@@ -40,10 +40,10 @@ pub struct ExplainOptions {
 /// What the words of the command line ask for.
 #[derive(Drop)]
 pub enum Settings<'a> {
-    /// To run the guests in folders, with these options.
-    Run(RunOptions, Vec<&'a str>),
-    /// To check files, with a report in JSON or not.
-    Check(bool, Vec<&'a str>),
+    /// To run the guests in folders, with these options, and with the library in a folder where one is named.
+    Run(RunOptions, Option<&'a str>, Vec<&'a str>),
+    /// To check files, with a report in JSON or not, and with the library in a folder where one is named.
+    Check(bool, Option<&'a str>, Vec<&'a str>),
     /// To explain the verdicts on files, with these options.
     Explain(ExplainOptions, Vec<&'a str>),
 }

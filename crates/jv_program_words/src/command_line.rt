@@ -1,7 +1,7 @@
 //! The command line, as the library that reads it takes it.
 ghost use Rattle.std.specs.Prelude.{◌≡◌, IfOk, codes, false};
 ghost use Rattle.clap.specs.Words.{app_of, rule_of};
-ghost use Rattle.jv_program_words.specs.CommandLine.{check_line, command_line, explain_line, flag, number_option, one_or_more, run_line};
+ghost use Rattle.jv_program_words.specs.CommandLine.{check_line, command_line, explain_line, flag, number_option, one_or_more, run_line, word_option};
 
 use clap::{Arg, ArgAction, Command, value_parser};
 use std::alloc::{AllocError, Global};
@@ -48,6 +48,17 @@ fn json<'a>(alloc: Global) -> Arg<'a>
     )
 }
 
+/// The option that takes the folder of a library.
+fn library<'a>(alloc: Global) -> Arg<'a>
+    ensures rule { rule_of result ≡ word_option (codes "library") }
+    ensures local { result.global ≡ false }
+{
+    Arg::new(alloc, "library")
+        .long("library")
+        .value_name("FOLDER")
+        .help("A folder with class files that stand in front of each guest's own")
+}
+
 /// An argument that takes one word or more.
 fn words<'a>(alloc: Global, name: &'a str, shown: &'a str, help: &'a str) -> Arg<'a>
     ensures rule { rule_of result ≡ one_or_more name.entry.now }
@@ -74,6 +85,7 @@ fn run_line<'a>(alloc: Global) -> Result<Command<'a>, AllocError>
             "FOLDER",
             "A folder with a guest's class files and the file `main`",
         ),
+        library(alloc),
         number(
             alloc,
             "cells",
@@ -153,7 +165,7 @@ fn check_line<'a>(alloc: Global) -> Result<Command<'a>, AllocError>
 {
     let about = "Checks class files as those of one guest, and runs nothing";
     let files = words(alloc, "file", "FILE", "A class file of the guest");
-    let args = [files, json(alloc)];
+    let args = [files, library(alloc), json(alloc)];
     Command::new(alloc, "check")
         .about(about)
         .args(Vec::from_array(alloc, args)?)

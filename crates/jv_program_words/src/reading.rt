@@ -1,7 +1,7 @@
 //! What the words of the command line ask for.
 ghost use Rattle.std.specs.Prelude.{◌≡◌, IfErr, IfOk, map, string_bytes};
 ghost use Rattle.clap.specs.Words.{all_of, found_of, kind_of, one_of, rows_of};
-ghost use Rattle.jv_program_words.specs.Settings.{AreNames, IsAskedBy, IsAskedIn, AreRefused, asked_by, explain_options_in, guest_in, is_set, number_or, options_in};
+ghost use Rattle.jv_program_words.specs.Settings.{AreNames, IsAskedBy, IsAskedIn, AreRefused, asked_by, explain_options_in, guest_in, is_set, number_or, options_in, text_of, word_in};
 
 use crate::asked::{ExplainOptions, RunOptions, Settings, usual_options};
 use crate::command_line::command_line;
@@ -92,6 +92,16 @@ fn explain_options_in(found: &ArgMatches<'_>) -> ExplainOptions
     }
 }
 
+/// The word of an option, where it is used.
+fn word_in<'a>(found: &ArgMatches<'a>, name: &str) -> Option<&'a str>
+    ensures { text_of result ≡ word_in (rows_of (found_of found.now)) name.now }
+{
+    match found.get_strs(name) {
+        Some(words) => words.first().copied(),
+        None => None,
+    }
+}
+
 /// The words of an argument that takes several, where it is used.
 fn names_in<'a>(
     alloc: Global,
@@ -118,10 +128,18 @@ fn asked_by<'a>(
         let Some(options) = options_in(found) else {
             return Ok(None);
         };
-        Ok(names_in(alloc, found, "folder")?.map(|folders| Settings::Run(options, folders)))
+        let library = word_in(found, "library");
+        let Some(folders) = names_in(alloc, found, "folder")? else {
+            return Ok(None);
+        };
+        Ok(Some(Settings::Run(options, library, folders)))
     } else if command == "check" {
         let json = is_set(found, "json");
-        Ok(names_in(alloc, found, "file")?.map(|files| Settings::Check(json, files)))
+        let library = word_in(found, "library");
+        let Some(files) = names_in(alloc, found, "file")? else {
+            return Ok(None);
+        };
+        Ok(Some(Settings::Check(json, library, files)))
     } else if command == "explain" {
         let options = explain_options_in(found);
         Ok(names_in(alloc, found, "file")?.map(|files| Settings::Explain(options, files)))

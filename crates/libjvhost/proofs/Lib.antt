@@ -1,3 +1,4 @@
+pub mod Few
 pub mod Owners
 pub mod Taken
 pub mod Values

@@ -1,6 +1,9 @@
 -- What the calls of include/jvhost.h do, over the list of admissions that a handle stands for (own).
 use Rattle.std.specs.Prelude.{◌≡◌, ◌≢◌, ℕ, ◌⊎◌, List, [], ◌∷◌, ◌++◌, Option, Some, None, length, map, take, drop, slice_get, is_some, nat_lt, if◌then◌else◌}
 use Rattle.jv_limits.specs.FileLimits.{first_file_refusal}
+use Rattle.jv_loader.specs.declared.library_fault.LibraryFault.{LibraryFault}
+use Rattle.jv_loader.specs.declared.library_fault.LibraryFault.TheVariants as faults
+use Rattle.jv_loader.specs.LibraryFault.{IsLibraryFault, IsSomeLibrary}
 use Rattle.jv_meaning_typing.specs.declared.verdict.Verdict.{Verdict}
 use Rattle.jv_meaning_machine.specs.State.{End}
 use Rattle.jv_meaning_machine.specs.State.{End as ends}
@@ -11,22 +14,58 @@ use Rattle.jv_verify.specs.Files.{AreFilesOf, Verified}
 use Rattle.jv_program_base.specs.Verdict.{verdict_text}
 use Rattle.jv_host.specs.Host.{Admission, after_feed}
 use Rattle.jv_host.specs.Calls.{admission, IsTurn, IsRun, IsShown}
-use Rattle.jv_host.specs.Limits.{first_refusal, feed_refusal as first_feed_refusal}
-use Rattle.libjvhost.specs.Codes.{ok, no_host, no_guest, no_file, host_memory, no_room, wrong_verdict, admit_refusal, feed_refusal, IsAnswer}
-use Rattle.libjvhost.specs.Told.{AreNumbers, IsTellable, told_verdict}
+use Rattle.jv_host.specs.Limits.{IsLibraryBroken, first_refusal, feed_refusal as first_feed_refusal}
+use Rattle.libjvhost.specs.Codes.{ok, no_host, no_guest, no_file, host_memory, library_broken, no_library, no_room, wrong_verdict, admit_refusal, feed_refusal, IsAnswer}
+use Rattle.libjvhost.specs.Told.{AreNumbers, IsFaultTold, IsTellable, told_verdict}
 use Rattle.libjvhost.specs.declared.told.Seen.{Seen}
+use Rattle.libjvhost.specs.declared.told.ToldFault.{ToldFault}
 use Rattle.libjvhost.specs.declared.told.ToldVerdict.{ToldVerdict}
 
+-- why files are no library: by their number or lengths, or by a fault, which is told
+abbrev pub IsNoLibraryOf : (files : List (List ℕ)) → (code : ℕ) → ToldFault → Type 0
+IsNoLibraryOf files code told =
+    ((first_file_refusal files ≢ None) × (code ≡ admit_refusal (first_file_refusal files)))
+    ⊎ ((code ≡ no_library) × (fault : LibraryFault) × (fault ≢ faults.OutOfMemory) × IsLibraryFault files fault × IsFaultTold told fault)
+
+-- a host: the files of the library that its guests stand on, and its guests
+pub record Hosted : Type 0 where
+  pub library : List (List ℕ)
+  pub guests : List Admission
+
+-- the files of a host's library, none where there is no host
+abbrev pub library_in : Option Hosted → List (List ℕ)
+library_in None = []
+library_in (Some host) = host.library
+
+-- one without a guest
+abbrev pub new_host : (library : List (List ℕ)) → Hosted
+new_host library = record { library = library; guests = [] }
+
+-- A host without a guest, on the library of these files; or none, since they are not as many, or as long, as those of a guest may be; or
+-- are no library, and it is told why; or memory was refused.
+pub record Makes (files : List (List ℕ)) (code : ℕ) (new : Option Hosted) (told : ToldFault) : Type 0 where
+  pub made : code ≡ ok → (new ≡ Some (new_host files)) × (first_file_refusal files ≡ None) × IsSomeLibrary files
+  pub none : code ≢ ok → new ≡ None
+  pub why : code ≢ ok → (code ≡ host_memory) ⊎ (IsNoLibraryOf files code told)
+
 -- A call on a handle does this to the guests of its host; where the handle holds no host, the code says so, and it holds none.
-abbrev pub OverHost : Option (List Admission) → Option (List Admission) → (code : ℕ) → (List Admission → List Admission → Type 0) → Type 0
+abbrev pub OverHost : Option Hosted → Option Hosted → (code : ℕ) → (List Admission → List Admission → Type 0) → Type 0
 OverHost None new code Does = (code ≡ no_host) × (new ≡ None)
-OverHost (Some old) new code Does = (after : List Admission) × (new ≡ Some after) × Does old after
+OverHost (Some old) new code Does =
+    (after : List Admission) × (new ≡ Some (record old { guests = after })) × Does old.guests after
 
 -- ---- calls that change the host
 
--- A guest is admitted with the next number, or refused for the first reason that applies.
+-- The answer is the first reason to refuse a guest, where the host holds so many, the last of which is that its library doesn't stand; or
+-- ok, or that memory was refused.
+abbrev pub IsAdmitAnswer : GuestFiles → Budget → (guests code : ℕ) → Type 0
+IsAdmitAnswer g b guests code =
+    IsAnswer (admit_refusal (first_refusal g b guests)) code
+    ⊎ ((first_refusal g b guests ≡ None) × (code ≡ library_broken) × IsLibraryBroken g)
+
+-- A guest is admitted with the next number, or refused.
 pub record Admits (g : GuestFiles) (b : Budget) (old new : List Admission) (code id : ℕ) : Type 0 where
-  pub answer : IsAnswer (admit_refusal (first_refusal g b (length old))) code
+  pub answer : IsAdmitAnswer g b (length old) code
   pub admitted : code ≡ ok → new ≡ old ++ admission g b ∷ []
   pub number : code ≡ ok → id ≡ length old
   pub same : code ≢ ok → new ≡ old
@@ -116,9 +155,9 @@ IsJudged g b n seen old new =
     (guests : List Admission) × (k : ℕ) × IsTurn (admission g b ∷ []) guests 0 n k
     × ShowsSome guests 0 (λ o. AreNumbers seen o × IsFilled o.output old new)
 
--- So it is, or it is refused: for the first reason that applies, or for want of memory.
+-- So it is, or it is refused, or memory was.
 pub record Judges (g : GuestFiles) (b : Budget) (n code : ℕ) (seen : Seen) (old new : List ℕ) : Type 0 where
-  pub answer : (code ≡ admit_refusal (first_refusal g b 0)) ⊎ (code ≡ host_memory)
+  pub answer : IsAdmitAnswer g b 0 code ⊎ (code ≡ host_memory)
   pub judged : code ≡ ok → IsJudged g b n seen old new
   pub same : code ≢ ok → new ≡ old
 

@@ -32,6 +32,12 @@ no_room = 13
 abbrev pub wrong_verdict : ℕ
 wrong_verdict = 14
 
+abbrev pub library_broken : ℕ
+library_broken = 18
+
+abbrev pub no_library : ℕ
+no_library = 19
+
 abbrev pub admit_code : AdmitFault → ℕ
 admit_code refusals.NoFiles = 5
 admit_code refusals.TooManyFiles = 6
@@ -39,6 +45,7 @@ admit_code refusals.FileTooLong = 7
 admit_code refusals.InputTooLong = 8
 admit_code refusals.BudgetOutOfRange = 9
 admit_code refusals.TooManyGuests = 10
+admit_code refusals.LibraryBroken = library_broken
 admit_code refusals.HostMemory = host_memory
 
 abbrev pub feed_code : FeedFault → ℕ

@@ -1,5 +1,6 @@
 -- How what a guest brings and shows is told in C's structs.
-use Rattle.std.specs.Prelude.{◌≡◌, ℕ, ◌<◌, ⊤, [], map, length}
+use Rattle.std.specs.Prelude.{◌≡◌, ℕ, ◌<◌, ⊤, List, map, length}
+use Rattle.std.specs.Option.{unwrap_or}
 use Rattle.jv_limits.specs.Bytes.{bytes_of}
 use Rattle.jv_meaning_world.specs.declared.verdict.LoadVerdict.{LoadVerdict}
 use Rattle.jv_meaning_world.specs.declared.verdict.LoadVerdict.TheVariants as reasons
@@ -10,15 +11,20 @@ use Rattle.jv_meaning_machine.specs.State.{End as ends}
 use Rattle.jv_meaning_machine.specs.Start.{Budget}
 use Rattle.jv_meaning_machine.specs.Alone.{GuestFiles}
 use Rattle.jv_meaning_machine.specs.Observation.{Observed}
+use Rattle.jv_loader.specs.declared.library_fault.LibraryFault.{LibraryFault}
+use Rattle.jv_loader.specs.declared.library_fault.LibraryFault.TheVariants as faults
+use Rattle.jv_program_base.specs.Library.{fault_place}
 use Rattle.jv_program_base.specs.Verdict.{rule_number}
 use Rattle.libjvhost.specs.declared.told.Guest.{Guest}
 use Rattle.libjvhost.specs.declared.told.Seen.{Seen}
+use Rattle.libjvhost.specs.declared.told.ToldFault.{ToldFault}
 use Rattle.libjvhost.specs.declared.told.ToldVerdict.{ToldVerdict}
 
 -- ---- what a guest brings
 
-abbrev pub files_told : Guest → GuestFiles
-files_told g = record { library = []; files = map bytes_of g.files.now; main = g.main.now; input = g.input.now }
+-- with a library of these files
+abbrev pub files_told : (library : List (List ℕ)) → Guest → GuestFiles
+files_told library g = record { library = library; files = map bytes_of g.files.now; main = g.main.now; input = g.input.now }
 
 abbrev pub budget_told : Guest → Budget
 budget_told g = record { cells = g.cells; words = g.words; output = g.output }
@@ -64,3 +70,25 @@ told_verdict (Refused reason) = record { kind = reason_number reason; method = 0
 abbrev pub IsTellable : Verdict → Type 0
 IsTellable (Verify fault) = fault.method < 65536
 IsTellable _ = ⊤
+
+-- ---- what is wrong with files that are no library
+
+-- enum jvhost_library_fault_kind; the last is told by a code
+abbrev pub fault_number : LibraryFault → ℕ
+fault_number (faults.Version place) = 0
+fault_number (faults.Format place) = 1
+fault_number (faults.Unsupported place) = 2
+fault_number (faults.Reserved place) = 3
+fault_number (faults.Duplicate place) = 4
+fault_number (faults.Main place) = 5
+fault_number (faults.Header place) = 6
+fault_number (faults.Initializer place) = 7
+fault_number (faults.AboveArrays place) = 8
+fault_number faults.NoString = 9
+fault_number faults.NoComparable = 10
+fault_number faults.NoCharSequence = 11
+fault_number faults.OutOfMemory = 12
+
+-- with the place of the file that has it, 0 where none has
+abbrev pub IsFaultTold : ToldFault → LibraryFault → Type 0
+IsFaultTold told fault = (told.kind ≡ fault_number fault) × (told.file ≡ unwrap_or (fault_place fault) 0)

@@ -35,6 +35,10 @@ pub(crate) const WRONG_SIZE: u32 = 12;
 pub(crate) const NO_ROOM: u32 = 13;
 /// No verdict is told so.
 pub(crate) const WRONG_VERDICT: u32 = 14;
+/// The library doesn't stand beside the guest's files. 15 to 17 are those of the part in C.
+const LIBRARY_BROKEN: u32 = 18;
+/// Files are no library.
+pub(crate) const NO_LIBRARY: u32 = 19;
 
 pub(crate) fn admit_code(fault: AdmitFault) -> u32
     ensures { result ≡ admit_code fault }
@@ -46,6 +50,7 @@ pub(crate) fn admit_code(fault: AdmitFault) -> u32
         AdmitFault::InputTooLong => INPUT_TOO_LONG,
         AdmitFault::BudgetOutOfRange => BUDGET_OUT_OF_RANGE,
         AdmitFault::TooManyGuests => TOO_MANY_GUESTS,
+        AdmitFault::LibraryBroken => LIBRARY_BROKEN,
         AdmitFault::HostMemory => HOST_MEMORY,
     }
 }

@@ -1,9 +1,9 @@
 //! The handle that the caller holds.
 
-ghost use Rattle.std.specs.Prelude.{◌≡◌, ◌≢◌, [], Option, Some, None, IsSome};
+ghost use Rattle.std.specs.Prelude.{◌≡◌, ◌≢◌, Option, Some, None, IsSome};
 ghost use Rattle.libjvhost.specs.Inside.Held.{Held, held_of, DoesOver};
 ghost use Rattle.libjvhost.specs.Inside.Jobs.{Does};
-ghost use Rattle.libjvhost.specs.Calls.{OverHost};
+ghost use Rattle.libjvhost.specs.Calls.{OverHost, library_in, new_host};
 
 use crate::codes::NO_HOST;
 use crate::jobs::{Done, Job, coded};
@@ -66,7 +66,7 @@ impl Owner {
     }
 
     pub(crate) fn start(owned: Loose<Owned, Global>, room: Loose<Kept<'static>, Global>) -> Owner
-        ensures { result.value ≡ Some (Some []) }
+        ensures { result.value ≡ Some (Some (new_host owned.value.system)) }
     {
         let Loose {
             at: owned,
@@ -121,7 +121,7 @@ impl JvHost {
 
     /// A handle that holds a new host.
     pub(crate) fn start(owned: Loose<Owned, Global>, room: Loose<Kept<'static>, Global>) -> JvHost
-        ensures { result.owner.value ≡ Some (Some []) }
+        ensures { result.owner.value ≡ Some (Some (new_host owned.value.system)) }
     {
         JvHost {
             owner: Owner::start(owned, room),
@@ -141,7 +141,8 @@ fn taken(host: &mut JvHost) -> Owner
 
 /// Does a job with what the handle holds, if it holds a host.
 pub(crate) fn perform(alloc: Global, host: &mut JvHost, job: Job) -> Done
-    ensures { OverHost (held_of host.old.owner.value) (held_of host.new.owner.value) result.code (λ old new. Does job old new result) }
+    ensures { OverHost (held_of host.old.owner.value) (held_of host.new.owner.value) result.code
+        (λ old new. Does job (library_in (held_of host.old.owner.value)) old new result) }
 {
     if host.holds == 0 {
         return coded(alloc, NO_HOST);

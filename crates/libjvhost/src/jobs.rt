@@ -1,17 +1,18 @@
 //! What is asked of the host behind a handle, and what comes of it.
 
 ghost use Rattle.std.specs.Prelude.{◌≡◌, ◌≢◌, take, drop};
-ghost use Rattle.jv_host.specs.Started.{budget_of};
 ghost use Rattle.jv_host.specs.Showing.{observed_of};
-ghost use Rattle.jv_host.specs.Files.{guest_of};
-ghost use Rattle.libjvhost.specs.Told.{AreNumbers};
+ghost use Rattle.libjvhost.specs.Told.{AreNumbers, budget_told, files_told};
 ghost use Rattle.libjvhost.specs.Calls.{Admits, Turns, Runs, Feeds, Observes, Copies, TellsVerdict, end_class, last_class};
 ghost use Rattle.libjvhost.specs.Inside.Jobs.{Does};
 
 use crate::codes::{HOST_MEMORY, NO_FILE, NO_GUEST, OK, admit_code, feed_code};
 use crate::room::{front_of, rest_of};
-use crate::told::{ACCEPTED, Seen, ToldVerdict, UNSEEN, seen_of, told_verdict};
-use jv_host::{Budget, GuestEnd, GuestFiles, GuestId, Host, Observation};
+use crate::told::{
+    ACCEPTED, Guest, Seen, ToldVerdict, UNSEEN, budget_of, files_of, seen_of, told_verdict,
+};
+use jv_host::{GuestEnd, GuestId, Host, Observation};
+use jv_loader::SystemFiles;
 use jv_store::Cells;
 use std::alloc::Global;
 
@@ -19,7 +20,7 @@ use std::alloc::Global;
 #[derive(Drop)]
 pub enum Job {
     /// To admit a guest.
-    Admit(GuestFiles<'static>, Budget),
+    Admit(Guest<'static>),
     /// To give a guest a turn.
     Turn(GuestId, u32),
     /// To give turns in rounds.
@@ -90,13 +91,13 @@ fn copied(alloc: Global, bytes: &[u8]) -> Done
 
 fn admit<'a>(
     alloc: Global,
+    system: &'a SystemFiles,
     host: &mut Host<'a, Cells>,
-    files: GuestFiles<'a>,
-    budget: Budget,
+    guest: Guest<'a>,
 ) -> Done
-    ensures { Admits (guest_of files.entry) (budget_of budget) host.old host.new result.code result.number }
+    ensures { Admits (files_told system.now guest.entry) (budget_told guest.entry) host.old host.new result.code result.number }
 {
-    match host.admit(files, budget) {
+    match host.admit(files_of(system, guest), budget_of(&guest)) {
         Ok(id) => numbered(alloc, u64::from(id.0)),
         Err(fault) => coded(alloc, admit_code(fault)),
     }
@@ -206,11 +207,16 @@ fn verdict(alloc: Global, host: &Host<'_, Cells>, id: GuestId, file: usize) -> D
 }
 
 /// Does a job.
-pub(crate) fn do_job<'a>(alloc: Global, host: &mut Host<'a, Cells>, job: Job) -> Done
-    ensures { Does job host.old host.new result }
+pub(crate) fn do_job<'a>(
+    alloc: Global,
+    system: &'a SystemFiles,
+    host: &mut Host<'a, Cells>,
+    job: Job,
+) -> Done
+    ensures { Does job system.now host.old host.new result }
 {
     match job {
-        Job::Admit(files, budget) => admit(alloc, host, files, budget),
+        Job::Admit(guest) => admit(alloc, system, host, guest),
         Job::Turn(id, n) => turn(alloc, host, id, n),
         Job::Run(n, rounds) => run(alloc, host, n, rounds),
         Job::Feed(id, bytes) => feed(alloc, host, id, &bytes),

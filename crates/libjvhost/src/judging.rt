@@ -13,7 +13,7 @@ use crate::room::fill;
 use crate::seed::state_of;
 use crate::told::{GUEST_SIZE, Guest, SEEN_SIZE, Seen, budget_of, files_of, seen_of};
 use jv_host::{Budget, GuestFiles, GuestId, Host};
-use jv_loader::{SystemFiles, system_files};
+use jv_loader::system_files;
 use jv_store::Cells;
 use std::alloc::Global;
 use std::hash::RandomState;
@@ -74,17 +74,10 @@ fn play<'a>(
     }
 }
 
-/// What a host of its own begins with.
-#[derive(Clone, Copy)]
-struct Begin<'a> {
-    alloc: Global,
-    state: RandomState,
-    system: &'a SystemFiles,
-}
-
 /// The same in a host of its own.
 fn play_alone<'a>(
-    begin: Begin<'a>,
+    alloc: Global,
+    state: RandomState,
     files: GuestFiles<'a>,
     budget: Budget,
     n: u32,
@@ -94,7 +87,7 @@ fn play_alone<'a>(
     ensures judges { Judges (guest_of files.entry) (budget_of budget) n result seen.new output.old output.new }
     ensures seen { result ≢ ok → seen.new ≡ seen.old }
 {
-    let mut host = Host::new(begin.alloc, begin.state, begin.system);
+    let mut host = Host::new(alloc, state);
     play(&mut host, files, budget, n, seen, output)
 }
 
@@ -112,22 +105,16 @@ pub extern "C" fn jvhost_judge_seeded(
     ensures guest { guest.now.size ≢ 72 → result ≡ wrong_size }
     ensures size { seen.old.size ≢ 48 → result ≡ wrong_size }
     ensures judges { guest.now.size ≡ 72 → seen.old.size ≡ 48
-        → Judges (files_told guest.now) (budget_told guest.now) steps result seen.new output.old output.new }
+        → Judges (files_told [] guest.now) (budget_told guest.now) steps result seen.new output.old output.new }
     ensures seen { result ≢ ok → seen.new ≡ seen.old }
     ensures same { result ≢ ok → output.new ≡ output.old }
 {
     if guest.size != GUEST_SIZE || seen.size != SEEN_SIZE {
         return WRONG_SIZE;
     }
-    let files = files_of(guest);
-    let budget = budget_of(guest);
     let (Some(state), Ok(system)) = (state_of(seed, more_seed), system_files(alloc)) else {
         return HOST_MEMORY;
     };
-    let begin = Begin {
-        alloc,
-        state,
-        system: &system,
-    };
-    play_alone(begin, files, budget, steps, seen, output)
+    let files = files_of(&system, *guest);
+    play_alone(alloc, state, files, budget_of(guest), steps, seen, output)
 }

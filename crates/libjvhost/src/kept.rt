@@ -1,14 +1,14 @@
 //! What stands behind a handle: a host, and what it borrows.
 
-ghost use Rattle.std.specs.Prelude.{◌≡◌, [], Some};
+ghost use Rattle.std.specs.Prelude.{◌≡◌, IfSome, Some};
+ghost use Rattle.libjvhost.specs.Calls.{new_host};
 ghost use Rattle.libjvhost.specs.Inside.Held.{held_in, DoesOver};
 
 use crate::codes::NO_HOST;
 use crate::jobs::{Done, Job, coded, do_job};
 use crate::loose::Loose;
-use crate::seed::state_of;
 use jv_host::Host;
-use jv_loader::{SystemFiles, system_files};
+use jv_loader::SystemFiles;
 use jv_store::Cells;
 use std::alloc::Global;
 use std::hash::RandomState;
@@ -21,21 +21,28 @@ pub struct Owned {
     pub(crate) system: SystemFiles,
 }
 
+/// A host, and what its guests stand on.
+#[derive(Drop)]
+pub struct Begun<'a> {
+    pub(crate) system: &'a SystemFiles,
+    pub(crate) host: Host<'a, Cells>,
+}
+
 /// A host, once it has begun.
 #[derive(Drop)]
 pub struct Kept<'a> {
     pub(crate) alloc: Global,
-    pub(crate) host: Option<Host<'a, Cells>>,
+    pub(crate) begun: Option<Begun<'a>>,
 }
 
 /// What a new host borrows, and room for it.
 pub(crate) fn make(
     alloc: Global,
-    seed: u64,
-    more_seed: u64,
-) -> Option<(Loose<Owned, Global>, Loose<Kept<'static>, Global>)> {
-    let state = state_of(seed, more_seed)?;
-    let system = system_files(alloc).ok()?;
+    state: RandomState,
+    system: SystemFiles,
+) -> Option<(Loose<Owned, Global>, Loose<Kept<'static>, Global>)>
+    ensures { IfSome result (λ made. made.0.value.system ≡ system) }
+{
     let owned = Box::new(
         alloc,
         Owned {
@@ -45,18 +52,21 @@ pub(crate) fn make(
         },
     )
     .ok()?;
-    let room = Box::new(alloc, Kept { alloc, host: None }).ok()?;
+    let room = Box::new(alloc, Kept { alloc, begun: None }).ok()?;
     Some((Loose::of(owned), Loose::of(room)))
 }
 
 /// A host without a guest.
 pub(crate) fn begin<'a>(owned: &'a mut Owned) -> Kept<'a>
-    ensures { held_in result ≡ Some [] }
+    ensures { held_in result ≡ Some (new_host owned.old.system) }
 {
     let owned: &'a Owned = owned;
     Kept {
         alloc: owned.alloc,
-        host: Some(Host::new(owned.alloc, owned.state, &owned.system)),
+        begun: Some(Begun {
+            system: &owned.system,
+            host: Host::new(owned.alloc, owned.state),
+        }),
     }
 }
 
@@ -64,8 +74,8 @@ pub(crate) fn begin<'a>(owned: &'a mut Owned) -> Kept<'a>
 pub(crate) fn work<'a>(kept: &mut Kept<'a>, job: Job) -> Done
     ensures { DoesOver job (held_in kept.old) (held_in kept.new) result }
 {
-    match &mut kept.host {
-        Some(host) => do_job(kept.alloc, host, job),
+    match &mut kept.begun {
+        Some(begun) => do_job(kept.alloc, begun.system, &mut begun.host, job),
         None => coded(kept.alloc, NO_HOST),
     }
 }

@@ -3,7 +3,7 @@
 ghost use Rattle.std.specs.Prelude.{◌≡◌, ◌≢◌, length, take, drop};
 ghost use Rattle.libjvhost.specs.Calls.{OverHost, Observes, Copies, TellsVerdict, IsFilled, end_class, last_class};
 ghost use Rattle.libjvhost.specs.Codes.{ok, wrong_size};
-ghost use Rattle.libjvhost.specs.Handles.{guests_of};
+ghost use Rattle.libjvhost.specs.Handles.{host_of};
 ghost use Rattle.libjvhost.specs.Told.{AreNumbers};
 
 use crate::codes::{OK, WRONG_SIZE};
@@ -17,8 +17,8 @@ use std::alloc::Global;
 /// What a guest shows, in numbers.
 #[unsafe(no_mangle)]
 pub extern "C" fn jvhost_observe(alloc: Global, host: &mut JvHost, id: u32, seen: &mut Seen) -> u32
-    ensures size { seen.old.size ≢ 48 → (result ≡ wrong_size) × (guests_of host.new ≡ guests_of host.old) }
-    ensures observes { seen.old.size ≡ 48 → OverHost (guests_of host.old) (guests_of host.new) result (λ old new.
+    ensures size { seen.old.size ≢ 48 → (result ≡ wrong_size) × (host_of host.new ≡ host_of host.old) }
+    ensures observes { seen.old.size ≡ 48 → OverHost (host_of host.old) (host_of host.new) result (λ old new.
         Observes id old new result (AreNumbers seen.new)) }
     ensures seen { result ≢ ok → seen.new ≡ seen.old }
 {
@@ -42,7 +42,7 @@ pub extern "C" fn jvhost_output(
     room: &mut [u8],
     copied: &mut usize,
 ) -> u32
-    ensures copies { OverHost (guests_of host.old) (guests_of host.new) result (λ old new. Copies id old new result (λ o.
+    ensures copies { OverHost (host_of host.old) (host_of host.new) result (λ old new. Copies id old new result (λ o.
         IsFilled (drop from o.output) room.old room.new × (copied.new ≡ length (take (length room.old) (drop from o.output))))) }
     ensures room { result ≢ ok → room.new ≡ room.old }
     ensures copied { result ≢ ok → copied.new ≡ copied.old }
@@ -64,7 +64,7 @@ pub extern "C" fn jvhost_last(
     room: &mut [u8],
     count: &mut usize,
 ) -> u32
-    ensures copies { OverHost (guests_of host.old) (guests_of host.new) result (λ old new. Copies id old new result (λ o.
+    ensures copies { OverHost (host_of host.old) (host_of host.new) result (λ old new. Copies id old new result (λ o.
         IsFilled (last_class o.last) room.old room.new × (count.new ≡ length (last_class o.last)))) }
     ensures room { result ≢ ok → room.new ≡ room.old }
     ensures count { result ≢ ok → count.new ≡ count.old }
@@ -86,7 +86,7 @@ pub extern "C" fn jvhost_end_class(
     room: &mut [u8],
     count: &mut usize,
 ) -> u32
-    ensures copies { OverHost (guests_of host.old) (guests_of host.new) result (λ old new. Copies id old new result (λ o.
+    ensures copies { OverHost (host_of host.old) (host_of host.new) result (λ old new. Copies id old new result (λ o.
         IsFilled (end_class o.end) room.old room.new × (count.new ≡ length (end_class o.end)))) }
     ensures room { result ≢ ok → room.new ≡ room.old }
     ensures count { result ≢ ok → count.new ≡ count.old }
@@ -108,7 +108,7 @@ pub extern "C" fn jvhost_verdict(
     file: usize,
     verdict: &mut ToldVerdict,
 ) -> u32
-    ensures tells { OverHost (guests_of host.old) (guests_of host.new) result (λ old new.
+    ensures tells { OverHost (host_of host.old) (host_of host.new) result (λ old new.
         TellsVerdict id file old new result verdict.new) }
     ensures verdict { result ≢ ok → verdict.new ≡ verdict.old }
 {

@@ -5,9 +5,10 @@ ghost use Rattle.jv_host.specs.Started.{budget_of};
 ghost use Rattle.jv_host.specs.Showing.{observed_of};
 ghost use Rattle.jv_host.specs.Files.{guest_of};
 ghost use Rattle.jv_program_base.specs.Verdict.{rule_number};
-ghost use Rattle.libjvhost.specs.Told.{AreNumbers, budget_told, files_told, reason_number, told_verdict};
+ghost use Rattle.libjvhost.specs.Told.{AreNumbers, IsFaultTold, budget_told, files_told, reason_number, told_verdict};
 
 use jv_host::{Budget, GuestEnd, GuestFiles, Observation};
+use jv_loader::{LibraryFault, SystemFiles};
 use jv_meaning_typing::{Verdict, VerifyFault, VerifyRule};
 use jv_meaning_world::LoadVerdict;
 
@@ -16,6 +17,9 @@ pub(crate) const GUEST_SIZE: usize = 72;
 
 /// The bytes of a `Seen`.
 pub(crate) const SEEN_SIZE: usize = 48;
+
+/// The bytes of a `ToldFault`.
+pub(crate) const FAULT_SIZE: usize = 24;
 
 /// What a guest brings, and what it may use: `jvhost_guest`.
 #[repr(C)]
@@ -69,6 +73,18 @@ pub struct ToldVerdict {
     pub rule: u32,
 }
 
+/// What is wrong with files that are no library: `jvhost_library_fault`.
+#[repr(C)]
+#[derive(Clone, Copy)]
+pub struct ToldFault {
+    /// The bytes of this struct.
+    pub size: usize,
+    /// The place of the file that has it, the first at 0; 0 where none has.
+    pub file: usize,
+    /// `enum jvhost_library_fault_kind`.
+    pub kind: u32,
+}
+
 /// What is told of no guest.
 pub(crate) const UNSEEN: Seen = Seen {
     size: SEEN_SIZE,
@@ -87,11 +103,12 @@ pub(crate) const ACCEPTED: ToldVerdict = ToldVerdict {
     rule: 0,
 };
 
-/// The files, main class and input of a guest.
-pub(crate) fn files_of<'a>(guest: &Guest<'a>) -> GuestFiles<'a>
-    ensures { guest_of result ≡ files_told guest.now }
+/// The files, main class and input of a guest that stands on the system's files, and a library with them.
+pub(crate) fn files_of<'a>(system: &'a SystemFiles, guest: Guest<'a>) -> GuestFiles<'a>
+    ensures { guest_of result ≡ files_told system.now guest.entry }
 {
     GuestFiles {
+        system,
         files: guest.files,
         main: guest.main,
         input: guest.input,
@@ -185,5 +202,31 @@ pub(crate) fn told_verdict(verdict: Verdict) -> ToldVerdict
             offset: 0,
             rule: 0,
         },
+    }
+}
+
+/// A fault of a library as it is told.
+pub(crate) fn told_library_fault(fault: LibraryFault) -> ToldFault
+    ensures { IsFaultTold result fault }
+{
+    let (kind, file) = match fault {
+        LibraryFault::Version(place) => (0, place),
+        LibraryFault::Format(place) => (1, place),
+        LibraryFault::Unsupported(place) => (2, place),
+        LibraryFault::Reserved(place) => (3, place),
+        LibraryFault::Duplicate(place) => (4, place),
+        LibraryFault::Main(place) => (5, place),
+        LibraryFault::Header(place) => (6, place),
+        LibraryFault::Initializer(place) => (7, place),
+        LibraryFault::AboveArrays(place) => (8, place),
+        LibraryFault::NoString => (9, 0),
+        LibraryFault::NoComparable => (10, 0),
+        LibraryFault::NoCharSequence => (11, 0),
+        LibraryFault::OutOfMemory => (12, 0),
+    };
+    ToldFault {
+        size: FAULT_SIZE,
+        file,
+        kind,
     }
 }

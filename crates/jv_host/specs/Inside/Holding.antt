@@ -1,14 +1,17 @@
 -- What the code keeps of the guests that were admitted, over one store.
-use Rattle.std.specs.Prelude.{◌≡◌, ℕ, ◌+◌, ◌≤◌, List, [], ◌∷◌, ◌++◌, length, map, Some, slice_get}
-use Rattle.jv_meaning_machine.specs.Alone.{Feed}
+use Rattle.std.specs.Prelude.{◌≡◌, ◌⊎◌, ℕ, ◌+◌, ◌≤◌, List, [], ◌∷◌, ◌++◌, length, map, Some, slice_get}
+use Rattle.jv_meaning_machine.specs.Alone.{Feed, GuestFiles}
 use Rattle.jv_interp_heap.specs.ObjectsInBlocks.{Blocks}
 use Rattle.jv_interp_held.specs.Growing.{Grows}
 use Rattle.jv_interp.specs.Started.{budget_of}
 use Rattle.jv_interp.specs.Standing.{GuestStands, AreApart}
 use Rattle.jv_host.specs.declared.admission.Fed.{Fed}
 use Rattle.jv_host.specs.declared.admission.Admitted.{Admitted}
+use Rattle.jv_limits.specs.declared.fault.AdmitFault.{AdmitFault}
+use Rattle.jv_limits.specs.declared.fault.AdmitFault.TheVariants.{HostMemory, LibraryBroken}
 use Rattle.jv_host.specs.Files.{guest_of}
 use Rattle.jv_host.specs.Host.{Admission, input_bytes}
+use Rattle.jv_host.specs.Limits.{IsLibraryBroken}
 
 abbrev pub feed_of : Fed → Feed
 feed_of fed = record { own_step = fed.own_step; bytes = fed.bytes.items }
@@ -72,6 +75,10 @@ pub record HasBegun (admission : Admission) (a : Admitted) (blocks blocks_after 
   pub addresses : List ℕ
   pub held : IsHeld a addresses blocks_after
   pub grows : Grows [] addresses blocks blocks_after
+
+-- why a guest that is otherwise allowed was not begun
+abbrev pub IsNotBegun : GuestFiles → AdmitFault → Type 0
+IsNotBegun g fault = (fault ≡ HostMemory) ⊎ ((fault ≡ LibraryBroken) × IsLibraryBroken g)
 
 -- what holds of a guest holds of it still, whatever the store's blocks are
 abbrev pub StaysHeld : Admitted → Admitted → Type 0

@@ -11,31 +11,35 @@ words more = codes "jvhost" ∷ more
 
 pub record WordRows : Type 0 where
   pub folders : asked_in (words (codes "run" ∷ codes "a" ∷ codes "b" ∷ []))
-      ≡ Some (run usual_options (codes "a" ∷ codes "b" ∷ []))
+      ≡ Some (run usual_options None (codes "a" ∷ codes "b" ∷ []))
   pub cells : asked_in (words (codes "run" ∷ codes "--cells" ∷ codes "64" ∷ codes "a" ∷ []))
-      ≡ Some (run (record usual_options { cells = 64 }) (codes "a" ∷ []))
+      ≡ Some (run (record usual_options { cells = 64 }) None (codes "a" ∷ []))
   pub behind : asked_in (words (codes "run" ∷ codes "a" ∷ codes "--quantum=3" ∷ codes "--rounds" ∷ codes "1" ∷ []))
-      ≡ Some (run (record usual_options { quantum = 3; rounds = 1 }) (codes "a" ∷ []))
+      ≡ Some (run (record usual_options { quantum = 3; rounds = 1 }) None (codes "a" ∷ []))
   pub fed : asked_in (words (codes "run" ∷ codes "--stdin" ∷ codes "2" ∷ codes "a" ∷ codes "b" ∷ []))
-      ≡ Some (run (record usual_options { stdin = Some 2 }) (codes "a" ∷ codes "b" ∷ []))
+      ≡ Some (run (record usual_options { stdin = Some 2 }) None (codes "a" ∷ codes "b" ∷ []))
   pub told : asked_in (words (codes "run" ∷ codes "--progress" ∷ codes "a" ∷ []))
-      ≡ Some (run (record usual_options { progress = true }) (codes "a" ∷ []))
+      ≡ Some (run (record usual_options { progress = true }) None (codes "a" ∷ []))
   pub judged : asked_in (words (codes "run" ∷ codes "--raw" ∷ codes "1" ∷ codes "--stdin" ∷ codes "1" ∷ codes "a" ∷ []))
-      ≡ Some (run (record usual_options { stdin = Some 1; raw = Some 1 }) (codes "a" ∷ []))
+      ≡ Some (run (record usual_options { stdin = Some 1; raw = Some 1 }) None (codes "a" ∷ []))
   pub timed : asked_in (words (codes "run" ∷ codes "--time" ∷ codes "a" ∷ []))
-      ≡ Some (run (record usual_options { time = true }) (codes "a" ∷ []))
+      ≡ Some (run (record usual_options { time = true }) None (codes "a" ∷ []))
   pub files : asked_in (words (codes "check" ∷ codes "A.class" ∷ codes "B.class" ∷ []))
-      ≡ Some (check false (codes "A.class" ∷ codes "B.class" ∷ []))
+      ≡ Some (check false None (codes "A.class" ∷ codes "B.class" ∷ []))
   pub explained : asked_in (words (codes "explain" ∷ codes "A.class" ∷ codes "B.class" ∷ []))
       ≡ Some (explain (record { json = false; links = false }) (codes "A.class" ∷ codes "B.class" ∷ []))
   pub lines : asked_in (words (codes "run" ∷ codes "a" ∷ codes "--json" ∷ []))
-      ≡ Some (run (record usual_options { json = true }) (codes "a" ∷ []))
+      ≡ Some (run (record usual_options { json = true }) None (codes "a" ∷ []))
   pub checked_lines : asked_in (words (codes "check" ∷ codes "--json" ∷ codes "A.class" ∷ []))
-      ≡ Some (check true (codes "A.class" ∷ []))
+      ≡ Some (check true None (codes "A.class" ∷ []))
   pub explained_lines : asked_in (words (codes "explain" ∷ codes "A.class" ∷ codes "--json" ∷ []))
       ≡ Some (explain (record { json = true; links = false }) (codes "A.class" ∷ []))
   pub linked : asked_in (words (codes "explain" ∷ codes "--links" ∷ codes "A.class" ∷ []))
       ≡ Some (explain (record { json = false; links = true }) (codes "A.class" ∷ []))
+  pub behind_a_library : asked_in (words (codes "run" ∷ codes "--library" ∷ codes "lib" ∷ codes "a" ∷ codes "b" ∷ []))
+      ≡ Some (run usual_options (Some (codes "lib")) (codes "a" ∷ codes "b" ∷ []))
+  pub checked_behind : asked_in (words (codes "check" ∷ codes "A.class" ∷ codes "--library=lib" ∷ []))
+      ≡ Some (check false (Some (codes "lib")) (codes "A.class" ∷ []))
   pub nothing : asked_in (words []) ≡ None
   pub no_command : fault_of command_line (words []) ≡ kinds.MissingSubcommand ∷ []
   pub no_folder : fault_of command_line (words (codes "run" ∷ [])) ≡ kinds.MissingRequiredArgument ∷ []
@@ -44,6 +48,9 @@ pub record WordRows : Type 0 where
   pub guest_65 : fault_of command_line (words (codes "run" ∷ codes "--stdin" ∷ codes "65" ∷ codes "a" ∷ []))
       ≡ kinds.ValueValidation ∷ []
   pub twice : fault_of command_line (words (codes "run" ∷ codes "--cells" ∷ codes "64" ∷ codes "--cells" ∷ codes "65" ∷ codes "a" ∷ []))
+      ≡ kinds.ArgumentConflict ∷ []
+  pub two_libraries :
+      fault_of command_line (words (codes "run" ∷ codes "--library" ∷ codes "l" ∷ codes "--library" ∷ codes "m" ∷ codes "a" ∷ []))
       ≡ kinds.ArgumentConflict ∷ []
   pub unknown : fault_of command_line (words (codes "run" ∷ codes "--fast" ∷ codes "a" ∷ [])) ≡ kinds.UnknownArgument ∷ []
   pub version : fault_of command_line (words (codes "--version" ∷ [])) ≡ kinds.DisplayVersion ∷ []

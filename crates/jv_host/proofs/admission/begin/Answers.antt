@@ -1,31 +1,42 @@
-use Rattle.std.proofs.Common.{[], length, map, refl}
+use Rattle.std.proofs.Common.{inr, length, map, refl}
 use Rattle.jv_limits.specs.Bytes.{bytes_of}
+use Rattle.jv_host.specs.Files.{guest_of}
 use Rattle.jv_host.proofs.Beginnings.{few_of_files, begun}
-use Rattle.jv_host.proofs.NoLibrary.{files_alone, stands_alone}
+use Rattle.jv_host.proofs.Broken.{broken_beside}
 use Rattle.jv_host.proofs.admission.begin.Goals as goal
 
 pub new-requires-clause-few : goal.new-requires-clause-few
 new-requires-clause-few g c =
-    few_of_files c.args.files.files.now c.in-Ok.judged
-    (files_alone c.args.system.now (map bytes_of c.args.files.files.now) c.in-Ok.judged (c.is_alone.ensures c.if-not-is_alone.false) c.in-Ok.ensures) c.requires.few
+    few_of_files c.args.files.system.now c.args.files.files.now c.in-Ok.judged c.in-Ok.ensures c.requires.library c.requires.few
 
 pub new-requires-clause-files : goal.new-requires-clause-files
 new-requires-clause-files g c =
+    let library = c.args.files.system.now in
     let files = map bytes_of c.args.files.files.now in
-    let are = files_alone c.args.system.now files c.in-Ok.judged (c.is_alone.ensures c.if-not-is_alone.false) c.in-Ok.ensures in
-    ([], files, are, stands_alone files c.in-Ok.judged c.system_stands.ensures.stands are)
+    (library, files, c.in-Ok.ensures, (c.in-Ok-host_stands.ensures.stands library files c.in-Ok.ensures).0 c.if-not-stands.false)
+
+pub returns-then-not-stands-clause-why : goal.returns-then-not-stands-clause-why
+returns-then-not-stands-clause-why g c =
+    let library = c.args.files.system.now in
+    let files = map bytes_of c.args.files.files.now in
+    inr (
+      refl,
+      broken_beside c.judged_by_verdicts.ensures c.one_content.ensures (guest_of c.args.files) c.in-Ok.judged c.in-Ok.ensures (λ stand.
+          let yes = (c.in-Ok-host_stands.ensures.stands library files c.in-Ok.ensures).1 stand in
+          let no = c.if-not-stands.true in cc),
+    )
 
 pub returns-clause-begun : goal.returns-clause-begun
 returns-clause-begun g c =
+    let library = c.args.files.system.now in
     let files = map bytes_of c.args.files.files.now in
-    let are = files_alone c.args.system.now files c.in-Ok.judged (c.is_alone.ensures c.if-not-is_alone.false) c.in-Ok.ensures in
     begun
     (record {
       files = c.args.files;
       budget = c.args.budget;
       feeds = c.new-2.result;
       came = length c.args.files.input.now;
-      guest = c.in_ok-guest.guest;
+      guest = c.in-Ok-new.guest;
     }) _ _
     c.new-2.ensures.items refl c.requires.input
-    (c.in_ok-guest.ensures.begun [] files are (stands_alone files c.in-Ok.judged c.system_stands.ensures.stands are))
+    (c.in-Ok-new.ensures.begun library files c.in-Ok.ensures ((c.in-Ok-host_stands.ensures.stands library files c.in-Ok.ensures).0 c.if-not-stands.false))

@@ -19,12 +19,15 @@ rows = record {
   checked_lines = refl;
   explained_lines = refl;
   linked = refl;
+  behind_a_library = refl;
+  checked_behind = refl;
   nothing = refl;
   no_command = refl;
   no_folder = refl;
   no_steps = refl;
   guest_65 = refl;
   twice = refl;
+  two_libraries = refl;
   unknown = refl;
   version = refl;
 }

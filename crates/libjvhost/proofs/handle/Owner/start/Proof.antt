@@ -42,6 +42,7 @@ use Rattle.std.proofs.raw_atomic.Walks.{proved_at, leaves}
 use Rattle.libjvhost.proofs.Values.{both as pair, Loose, loose_good, loose_out}
 use Rattle.libjvhost.specs.declared.kept.Kept.{Kept}
 use Rattle.std.specs.Prelude.{Option, Some}
+use Rattle.libjvhost.specs.Calls.{new_host}
 use Rattle.libjvhost.specs.Inside.Held.{Held, held_in}
 use Rattle.libjvhost.specs.Inside.Owning.{chunk, lent_row, holds_kept, back}
 use Rattle.libjvhost.specs.contracts.kept.Owned as owned
@@ -64,6 +65,7 @@ start_spec 𝓤 𝓛 𝓜 𝓡 wired =
     proved_at 𝓛 ended hs c 𝓜 𝓡 (Goes-dropped 𝓛 0 (plain (λ _. Loose W Z LZ ghosts)) yes (λ κs x f. refl), (Goes-blank 𝓛 0 (plain (λ _. Loose S Z LZ ghosts)) no (λ κs x f. tt), tt))
     #self fn (code.unfolded 𝓤 H 𝓜 𝓡 wired) (λ z are.
     let Post : Val → SProp 𝓤 = (walk_of 𝓛 ended hs c).post z in let v₁ = z.0.3.0 in let v₂ = z.0.3.1.0 in
+    let Fresh : Held = Some (new_host v₁.value.system) in
     qed 𝓛 ((raw (alive 𝓛 ended.signature z.0.0 z.0.1) ⊛ ‵ (owns (types_at ended.signature.params z.0.0) z.0.3 z.0.4)) ∷ ‵ ftrue ∷ []) ∵
     split ! $ move ! (1 ∷ []) $ fsplit ! $ loose_out W Z LZ ghosts ! v₁ z.0.4.0 (λ b o h e ws fits.
     move ! (2 ∷ []) $ fsplit ! $ loose_out S Z LZ ghosts ! v₂ z.0.4.1.0 (λ b' o' h' e' ws' fits'. fsplit ! $
@@ -89,8 +91,8 @@ start_spec 𝓤 𝓛 𝓜 𝓡 wired =
     nothing ! $ move ! (3 ∷ 0 ∷ []) $ join ! $ nothing ! $ move ! (2 ∷ 0 ∷ []) $ join ! $ join ! $ nothing ! $ move ! (1 ∷ 0 ∷ []) $ use2 𝓛 (raw (G.pre y)) (id⊢ 𝓤 _) $
     calls_at ! (framed 𝓤 𝓛.H 𝓜 (tables 𝓤 𝓛.H 𝓜 𝓡 𝓡.env)) G (begin_thm.met 𝓤 𝓛 𝓜 𝓡 (code.calls-libjvhost::kept::begin 𝓡.env wired)) y (and_then ! (get ! refl) (no_more !)) (λ u.
     use1 𝓛 (later (some (λ (r : Kept). ((‵ (flft (α ∷ []) L) ⊛ ‵ ftrue) ⊛ ‵ (T.own_val r (u ∷ []))) ⊛
-    some (λ (ls : Lasts begin.ended (α ∷ [], tt) y.0.3). ‵ (lasts begin.ended (α ∷ [], tt) y.0.3 ls) ⊛ raw (fact 𝓤 (held_in r ≡ Some [])))))) (id⊢ 𝓤 _) $
-    await ! tt $ pick ! (λ r. split ! $ move ! (1 ∷ []) $ pick ! (λ ls. split ! $ drop ! $ heard ! (held_in r ≡ Some []) (λ none. split ! $ split ! $
+    some (λ (ls : Lasts begin.ended (α ∷ [], tt) y.0.3). ‵ (lasts begin.ended (α ∷ [], tt) y.0.3 ls) ⊛ raw (fact 𝓤 (held_in r ≡ Fresh)))))) (id⊢ 𝓤 _) $
+    await ! tt $ pick ! (λ r. split ! $ move ! (1 ∷ []) $ pick ! (λ ls. split ! $ drop ! $ heard ! (held_in r ≡ Fresh) (λ none. split ! $ split ! $
     move ! (0 ∷ 3 ∷ []) $ use2 𝓛 (‵ (flft (α ∷ []) full_share)) (𝓛.lfts.lft_glue (α ∷ []) full_share L R (halves full_share)) $ move ! (2 ∷ []) $
     -- [the host by value; α's token; nothing; the lender's part; the right to free what is owned; the room; the right to free it; ..]
     peeks ! T (Is T) (shows 𝓛 T) r (u ∷ []) (λ is. let good = ((kept_laws.the_row_laws (record { mir = static; lft = α ∷ [] })).lawful 𝓛).typed r (u ∷ []) is in
@@ -102,7 +104,7 @@ start_spec 𝓤 𝓛 𝓜 𝓡 wired =
     let p : Ptr = block_ptr b' o' in let q : Ptr = block_ptr b o in
     sets ! (agg ! (and_then ! (get ! refl) (and_then ! (get ! refl) (no_more !)))) refl (owner_good p q) $
     returns ! (look_at ! 0 refl) $ free_all ! refl $
-    let End : Held = Some [] in let held : Option (Held) = Some End in let Said : Type 0 = held ≡ held in
+    let End : Held = Fresh in let held : Option (Held) = Some End in let Said : Type 0 = held ≡ held in
     move ! (5 ∷ 0 ∷ []) $ use2 𝓛 (‵ (part_at T full_share r b' o')) (part_in_at 𝓛 T refl full_share r b' o' δ refl u) $
     move ! (0 ∷ 5 ∷ []) $ fjoin ! $ feq_i ! (Held) (held_in r) End none $ fjoin ! $
     fpack ! Kept (λ (w : Kept). fsep (feq (Held) (held_in w) End) (box_owns chunk T p w)) r $

@@ -64,7 +64,7 @@ use Rattle.libjvhost.proofs.handle.Owner.step.Code as code
 
 -- a job leaves nothing behind
 no_trace : (x : job.the_row.Denot) (f : Last (job.the_row.exit yes) x) → T (blank (left (job.the_row.exit yes) x f))
-no_trace (jobs.Admit files budget) f = tt
+no_trace (jobs.Admit guest) f = tt
 no_trace (jobs.Turn id n) f = tt
 no_trace (jobs.Run n rounds) f = tt
 no_trace (jobs.Feed id bytes) f = tt
