@@ -1,0 +1,29 @@
+package java.io;
+
+public class StringReader extends CharReader {
+    private String text;
+    private int at;
+
+    public StringReader(String text) {
+        this.text = java.util.Objects.requireNonNull(text);
+    }
+
+    public int read() throws IOException {
+        if (text == null) {
+            throw new IOException("Stream closed");
+        }
+        if (at == text.length()) {
+            return -1;
+        }
+        at++;
+        return text.charAt(at - 1);
+    }
+
+    public boolean ready() throws IOException {
+        return true;
+    }
+
+    public void close() {
+        text = null;
+    }
+}

@@ -1,0 +1,225 @@
+package java.util;
+
+/** Texts by formats: d x X o s S c C b B h n %, with flags, an argument's number or `<`, a width, and for texts a precision. */
+public final class Formats {
+    private final StringBuilder out;
+    private final String format;
+    private final Object[] values;
+    private int at;
+    private int ordinary;
+    private int last = -1;
+
+    private Formats(StringBuilder out, String format, Object[] values) {
+        this.out = out;
+        this.format = format;
+        this.values = values;
+    }
+
+    public static StringBuilder format(StringBuilder out, String format, Object[] values) {
+        new Formats(out, format, values).all();
+        return out;
+    }
+
+    private void all() {
+        int n = format.length();
+        while (at < n) {
+            char c = format.charAt(at);
+            at++;
+            if (c == '%') {
+                specifier(at);
+            } else {
+                out.append(c);
+            }
+        }
+    }
+
+    private boolean isDigit() {
+        return at < format.length() && format.charAt(at) >= '0' && format.charAt(at) <= '9';
+    }
+
+    private int number() {
+        int number = 0;
+        while (isDigit()) {
+            number = 10 * number + format.charAt(at) - '0';
+            at++;
+        }
+        return number;
+    }
+
+    /** `%[number$][flags][width][.precision]conversion`, from behind the `%`. */
+    private void specifier(int begin) {
+        int place = -1;
+        if (isDigit()) {
+            int number = number();
+            if (at < format.length() && format.charAt(at) == '$') {
+                place = number - 1;
+                at++;
+            } else {
+                at = begin;
+            }
+        }
+        int flagsAt = at;
+        while (at < format.length() && "-#+ 0,(<".indexOf(format.charAt(at)) >= 0) {
+            at++;
+        }
+        String flags = format.substring(flagsAt, at);
+        int width = isDigit() ? number() : -1;
+        int precision = -1;
+        if (at < format.length() && format.charAt(at) == '.') {
+            at++;
+            precision = isDigit() ? number() : -1;
+        }
+        if (at == format.length()) {
+            throw new UnknownFormatConversionException(format.substring(at - 1));
+        }
+        char how = format.charAt(at);
+        at++;
+        if (width < 0 && (flags.indexOf('-') >= 0 || flags.indexOf('0') >= 0)) {
+            throw new MissingFormatWidthException(format.substring(begin - 1, at));
+        }
+        if (how == 'n') {
+            out.append('\n');
+        } else if (how == '%') {
+            pad("%", flags, width);
+        } else if ("dxXosScCbBhH".indexOf(how) < 0 && "eEfgGaAtT".indexOf(how) < 0) {
+            throw new UnknownFormatConversionException(String.valueOf(how));
+        } else {
+            Object value = value(place, flags, format.substring(begin - 1, at));
+            pad(text(value, how, flags, width, precision), flags, width);
+        }
+    }
+
+    private Object value(int place, String flags, String specifier) {
+        if (flags.indexOf('<') >= 0) {
+            place = last;
+        } else if (place < 0) {
+            place = ordinary;
+            ordinary++;
+        }
+        if (place < 0 || values != null && place >= values.length) {
+            throw new MissingFormatArgumentException(specifier);
+        }
+        last = place;
+        return values == null ? null : values[place];
+    }
+
+    private void pad(String text, String flags, int width) {
+        boolean left = flags.indexOf('-') >= 0;
+        if (left) {
+            out.append(text);
+        }
+        for (int k = text.length(); k < width; k++) {
+            out.append(' ');
+        }
+        if (!left) {
+            out.append(text);
+        }
+    }
+
+    private static String cut(String text, int precision) {
+        return precision >= 0 && precision < text.length() ? text.substring(0, precision) : text;
+    }
+
+    private static String text(Object value, char how, String flags, int width, int precision) {
+        switch (how) {
+            case 'd':
+            case 'x':
+            case 'X':
+            case 'o':
+                return value == null ? how == 'X' ? "NULL" : "null" : integer(value, how, flags, width);
+            case 'c':
+                return value == null ? "null" : character(value, how);
+            case 'C':
+                return value == null ? "NULL" : character(value, how).toUpperCase();
+            case 'b':
+                return cut(truth(value), precision);
+            case 'B':
+                return cut(truth(value).toUpperCase(), precision);
+            case 'h':
+                return cut(value == null ? "null" : Integer.toHexString(value.hashCode()), precision);
+            case 'H':
+                return cut(value == null ? "NULL" : Integer.toHexString(value.hashCode()).toUpperCase(), precision);
+            case 's':
+                return cut(String.valueOf(value), precision);
+            case 'S':
+                return cut(String.valueOf(value).toUpperCase(), precision);
+            default:
+                if (value == null) {
+                    return "null";
+                }
+                throw new IllegalFormatConversionException(how, value);
+        }
+    }
+
+    private static String truth(Object value) {
+        return value instanceof Boolean ? value.toString() : value == null ? "false" : "true";
+    }
+
+    private static String character(Object value, char how) {
+        if (value instanceof Character) {
+            return value.toString();
+        }
+        if (value instanceof Integer || value instanceof Short || value instanceof Byte) {
+            return String.of(Character.toChars(((Number) value).intValue()));
+        }
+        throw new IllegalFormatConversionException(how, value);
+    }
+
+    private static String integer(Object value, char how, String flags, int width) {
+        if (!(value instanceof Number)) {
+            throw new IllegalFormatConversionException(how, value);
+        }
+        if (how == 'd') {
+            return signed(value.toString(), flags, width);
+        }
+        int radix = how == 'o' ? 8 : 16;
+        String front = flags.indexOf('#') < 0 ? "" : how == 'o' ? "0" : "0x";
+        String text;
+        if (value instanceof java.math.BigInteger) {
+            text = signed(((java.math.BigInteger) value).toString(radix), flags, width);
+        } else {
+            long l = ((Number) value).longValue();
+            long bits = value instanceof Long ? l
+                : value instanceof Integer ? l & 0xffffffffL
+                : value instanceof Short ? l & 0xffff : l & 0xff;
+            String digits = radix == 8 ? Long.toOctalString(bits) : Long.toHexString(bits);
+            text = front.concat(zeros(flags.indexOf('0') < 0 ? 0 : width - front.length() - digits.length())).concat(digits);
+        }
+        return how == 'X' ? text.toUpperCase() : text;
+    }
+
+    private static String zeros(int n) {
+        StringBuilder zeros = new StringBuilder();
+        for (int i = 0; i < n; i++) {
+            zeros.append('0');
+        }
+        return zeros.toString();
+    }
+
+    private static String signed(String text, String flags, int width) {
+        boolean negative = text.charAt(0) == '-';
+        String digits = negative ? text.substring(1) : text;
+        boolean closes = negative && flags.indexOf('(') >= 0;
+        String front = closes ? "(" : negative ? "-" : flags.indexOf('+') >= 0 ? "+" : flags.indexOf(' ') >= 0 ? " " : "";
+        String behind = closes ? ")" : "";
+        if (flags.indexOf(',') >= 0) {
+            digits = grouped(digits);
+        }
+        if (flags.indexOf('0') >= 0) {
+            digits = zeros(width - front.length() - digits.length() - behind.length()).concat(digits);
+        }
+        return front.concat(digits).concat(behind);
+    }
+
+    private static String grouped(String digits) {
+        StringBuilder out = new StringBuilder();
+        int n = digits.length();
+        for (int i = 0; i < n; i++) {
+            if (i > 0 && (n - i) % 3 == 0) {
+                out.append(',');
+            }
+            out.append(digits.charAt(i));
+        }
+        return out.toString();
+    }
+}

@@ -1,0 +1,374 @@
+package java.util;
+
+import java.io.IOException;
+import java.io.InputStream;
+import java.io.InputStreamReader;
+import java.io.Reader;
+import java.io.StringReader;
+import java.util.regex.Matcher;
+import java.util.regex.Pattern;
+
+/** Reads tokens and lines, and no more of its input than it needs: but with a delimiter of one's own all of it, at once. */
+public final class Scanner implements Iterator<String>, java.io.Closeable {
+    private static final long NO_NUMBER = Long.MIN_VALUE;
+
+    private final Reader in;
+    /** What was read and not yet taken stands from `from` to `to`; places below are counted from `from`. */
+    private char[] chars = new char[64];
+    private int from;
+    private int to;
+    private boolean ended;
+    private boolean closed;
+    private Pattern delimiter;
+    private int start;
+    private int end;
+
+    public Scanner(InputStream in) {
+        this.in = new InputStreamReader(Objects.requireNonNull(in, "source"));
+    }
+
+    public Scanner(InputStream in, String charset) {
+        this(in);
+    }
+
+    public Scanner(Readable in) {
+        this.in = (Reader) Objects.requireNonNull(in, "source");
+    }
+
+    public Scanner(String text) {
+        this.in = new StringReader(text);
+    }
+
+    /** The char at a place, or -1 behind the end of the input. */
+    private int at(int place) {
+        while (from + place >= to) {
+            if (ended) {
+                return -1;
+            }
+            int c;
+            try {
+                c = in.read();
+            } catch (IOException e) {
+                c = -1;
+            }
+            if (c < 0) {
+                ended = true;
+                return -1;
+            }
+            if (to == chars.length) {
+                make();
+            }
+            chars[to] = (char) c;
+            to++;
+        }
+        return chars[from + place];
+    }
+
+    /** Makes room behind what was read. */
+    private void make() {
+        char[] larger = 2 * (to - from) > chars.length ? new char[2 * chars.length] : chars;
+        System.arraycopy(chars, from, larger, 0, to - from);
+        chars = larger;
+        to -= from;
+        from = 0;
+    }
+
+    private static boolean isSpace(int c) {
+        return c >= 0 && c <= ' ' && Character.isWhitespace(c);
+    }
+
+    /** There is a further token; it stands from `start` to `end`. */
+    private boolean find() {
+        if (closed) {
+            throw new IllegalStateException("Scanner closed");
+        }
+        if (delimiter != null) {
+            return findBehindDelimiter();
+        }
+        int i = 0;
+        int c = at(i);
+        while (isSpace(c)) {
+            i++;
+            c = from + i < to ? chars[from + i] : at(i);
+        }
+        start = i;
+        while (c > ' ' || c >= 0 && !isSpace(c)) {
+            i++;
+            c = from + i < to ? chars[from + i] : at(i);
+        }
+        end = i;
+        return end > start;
+    }
+
+    private boolean findBehindDelimiter() {
+        int n = 0;
+        while (at(n) >= 0) {
+            n++;
+        }
+        String rest = String.of(chars, from, to);
+        Matcher front = delimiter.matcher(rest);
+        start = front.lookingAt() ? front.end() : 0;
+        if (start == n) {
+            return false;
+        }
+        Matcher next = delimiter.matcher(rest);
+        end = next.find(start) && (next.end() > start || next.find()) ? next.start() : n;
+        return true;
+    }
+
+    private String found() {
+        return String.of(chars, from + start, from + end);
+    }
+
+    /** The token that is to be taken: what stands before it is taken in any case. */
+    private String token() {
+        boolean there = find();
+        from += start;
+        end -= start;
+        start = 0;
+        if (!there) {
+            throw new NoSuchElementException();
+        }
+        return found();
+    }
+
+    private String taken(String token) {
+        from += end;
+        return token;
+    }
+
+    public Scanner useDelimiter(String pattern) {
+        delimiter = Pattern.compile(pattern);
+        return this;
+    }
+
+    public Scanner useDelimiter(Pattern pattern) {
+        delimiter = pattern;
+        return this;
+    }
+
+    public boolean hasNext() {
+        return find();
+    }
+
+    public String next() {
+        return taken(token());
+    }
+
+    public boolean hasNext(String pattern) {
+        return find() && found().matches(pattern);
+    }
+
+    public String next(String pattern) {
+        String t = token();
+        if (!t.matches(pattern)) {
+            throw new InputMismatchException();
+        }
+        return taken(t);
+    }
+
+    // ---- numbers
+
+    /** A number's digits and sign alone: groups of three digits may have commas between. Null where it is none. */
+    private static String digits(String t, int radix) {
+        StringBuilder out = new StringBuilder();
+        int n = t.length();
+        int i = 0;
+        if (n > 0 && (t.charAt(0) == '-' || t.charAt(0) == '+')) {
+            out.append(t.charAt(0));
+            i++;
+        }
+        int first = i;
+        int comma = t.indexOf(',');
+        for (; i < n; i++) {
+            char c = t.charAt(i);
+            if (c == ',') {
+                if (comma == first || comma > first + 3 || (i - comma) % 4 != 0 || (n - i) % 4 != 0) {
+                    return null;
+                }
+            } else if (Character.digit(c, radix) < 0) {
+                return null;
+            } else {
+                out.append(c);
+            }
+        }
+        return i > first && (comma < 0 || (n - comma) % 4 == 0) ? out.toString() : null;
+    }
+
+    /** The token's number where it is one of at most 18 digits, which takes no memory; else NO_NUMBER. */
+    private long simple() {
+        int i = from + start;
+        int last = from + end;
+        boolean negative = chars[i] == '-';
+        if (negative || chars[i] == '+') {
+            i++;
+        }
+        if (i == last || last - i > 18) {
+            return NO_NUMBER;
+        }
+        long sum = 0;
+        for (; i < last; i++) {
+            int digit = chars[i] - '0';
+            if (digit < 0 || digit > 9) {
+                return NO_NUMBER;
+            }
+            sum = 10 * sum + digit;
+        }
+        return negative ? -sum : sum;
+    }
+
+    private boolean hasNumber(long least, long most) {
+        if (!find()) {
+            return false;
+        }
+        long l = end > start ? simple() : NO_NUMBER;
+        return l != NO_NUMBER ? l >= least && l <= most : isNumber(found(), least, most);
+    }
+
+    private static boolean isNumber(String t, long least, long most) {
+        String d = digits(t, 10);
+        if (d == null) {
+            return false;
+        }
+        try {
+            long l = Long.parseLong(d);
+            return l >= least && l <= most;
+        } catch (NumberFormatException e) {
+            return false;
+        }
+    }
+
+    private long number(long least, long most) {
+        if (find() && end > start) {
+            long l = simple();
+            if (l != NO_NUMBER && l >= least && l <= most) {
+                from += end;
+                return l;
+            }
+        }
+        String t = token();
+        String d = digits(t, 10);
+        if (d == null) {
+            throw new InputMismatchException();
+        }
+        if (!isNumber(t, least, most)) {
+            boolean isInt = most < Integer.MAX_VALUE && isNumber(t, Integer.MIN_VALUE, Integer.MAX_VALUE);
+            throw new InputMismatchException(isInt ? "Value out of range. Value:\"" + d + "\" Radix:10" : "For input string: \"" + d + "\"");
+        }
+        taken(t);
+        return Long.parseLong(d);
+    }
+
+    public boolean hasNextInt() {
+        return hasNumber(Integer.MIN_VALUE, Integer.MAX_VALUE);
+    }
+
+    public boolean hasNextLong() {
+        return hasNumber(Long.MIN_VALUE, Long.MAX_VALUE);
+    }
+
+    public boolean hasNextShort() {
+        return hasNumber(Short.MIN_VALUE, Short.MAX_VALUE);
+    }
+
+    public boolean hasNextByte() {
+        return hasNumber(Byte.MIN_VALUE, Byte.MAX_VALUE);
+    }
+
+    public int nextInt() {
+        return (int) number(Integer.MIN_VALUE, Integer.MAX_VALUE);
+    }
+
+    public long nextLong() {
+        return number(Long.MIN_VALUE, Long.MAX_VALUE);
+    }
+
+    public short nextShort() {
+        return (short) number(Short.MIN_VALUE, Short.MAX_VALUE);
+    }
+
+    public byte nextByte() {
+        return (byte) number(Byte.MIN_VALUE, Byte.MAX_VALUE);
+    }
+
+    public int nextInt(int radix) {
+        String t = token();
+        String d = digits(t, radix);
+        if (d == null) {
+            throw new InputMismatchException();
+        }
+        int i;
+        try {
+            i = Integer.parseInt(d, radix);
+        } catch (NumberFormatException e) {
+            throw new InputMismatchException(e.getMessage());
+        }
+        taken(t);
+        return i;
+    }
+
+    public boolean hasNextBigInteger() {
+        return find() && digits(found(), 10) != null;
+    }
+
+    public java.math.BigInteger nextBigInteger() {
+        String t = token();
+        String d = digits(t, 10);
+        if (d == null) {
+            throw new InputMismatchException();
+        }
+        return new java.math.BigInteger(digits(taken(t), 10));
+    }
+
+    public boolean hasNextBoolean() {
+        return find() && isBoolean(found());
+    }
+
+    public boolean nextBoolean() {
+        String t = token();
+        if (!isBoolean(t)) {
+            throw new InputMismatchException();
+        }
+        return Boolean.parseBoolean(taken(t));
+    }
+
+    private static boolean isBoolean(String t) {
+        return t.equalsIgnoreCase("true") || t.equalsIgnoreCase("false");
+    }
+
+    // ---- lines
+
+    private static boolean endsLine(int c) {
+        return c == '\n' || c == '\r' || c == 0x85 || c == 0x2028 || c == 0x2029;
+    }
+
+    public boolean hasNextLine() {
+        if (closed) {
+            throw new IllegalStateException("Scanner closed");
+        }
+        return at(0) >= 0;
+    }
+
+    public String nextLine() {
+        if (!hasNextLine()) {
+            throw new NoSuchElementException("No line found");
+        }
+        int n = 0;
+        while (at(n) >= 0 && !endsLine(at(n))) {
+            n++;
+        }
+        int c = at(n);
+        int behind = c < 0 ? n : c == '\r' && at(n + 1) == '\n' ? n + 2 : n + 1;
+        String line = String.of(chars, from, from + n);
+        from += behind;
+        return line;
+    }
+
+    public void close() {
+        closed = true;
+    }
+
+    public Scanner useLocale(Locale locale) {
+        return this;
+    }
+}

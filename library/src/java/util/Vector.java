@@ -1,0 +1,121 @@
+package java.util;
+
+public class Vector<E> extends ItemList<E> implements List<E>, RandomAccess, Cloneable, java.io.Serializable {
+    public Vector() {
+    }
+
+    public Vector(int capacity) {
+        super(capacity);
+    }
+
+    public Vector(Collection<? extends E> c) {
+        super(c);
+    }
+
+    private void check(int index) {
+        if (index < 0 || index >= size()) {
+            throw new ArrayIndexOutOfBoundsException("Array index out of range: " + index);
+        }
+    }
+
+    public E get(int index) {
+        check(index);
+        return super.get(index);
+    }
+
+    public E set(int index, E e) {
+        check(index);
+        return super.set(index, e);
+    }
+
+    public E remove(int index) {
+        check(index);
+        return super.remove(index);
+    }
+
+    public void add(int index, E e) {
+        if (index < 0 || index > size()) {
+            throw new ArrayIndexOutOfBoundsException(index + " > " + size());
+        }
+        super.add(index, e);
+    }
+
+    public boolean addAll(int index, Collection<? extends E> c) {
+        if (index < 0 || index > size()) {
+            throw new ArrayIndexOutOfBoundsException("Array index out of range: " + index);
+        }
+        return super.addAll(index, c);
+    }
+
+    public ListIterator<E> listIterator(int index) {
+        if (index < 0 || index > size()) {
+            throw new IndexOutOfBoundsException("Index: " + index);
+        }
+        return super.listIterator(index);
+    }
+
+    public void addElement(E e) {
+        add(e);
+    }
+
+    public E elementAt(int index) {
+        if (index >= size()) {
+            throw new ArrayIndexOutOfBoundsException(index + " >= " + size());
+        }
+        return get(index);
+    }
+
+    public E firstElement() {
+        if (size() == 0) {
+            throw new NoSuchElementException();
+        }
+        return get(0);
+    }
+
+    public E lastElement() {
+        if (size() == 0) {
+            throw new NoSuchElementException();
+        }
+        return get(size() - 1);
+    }
+
+    public void removeAllElements() {
+        clear();
+    }
+
+    public Vector(int capacity, int more) {
+        super(capacity);
+    }
+
+    public void setElementAt(E e, int index) {
+        set(index, e);
+    }
+
+    public void insertElementAt(E e, int index) {
+        add(index, e);
+    }
+
+    public void removeElementAt(int index) {
+        remove(index);
+    }
+
+    public boolean removeElement(Object o) {
+        return remove(o);
+    }
+
+    public int capacity() {
+        return Math.max(10, size());
+    }
+
+    public Object clone() {
+        return new Vector<E>(this);
+    }
+
+    public Enumeration<E> elements() {
+        return Collections.enumeration(this);
+    }
+
+    public void copyInto(Object[] to) {
+        toArray(to);
+    }
+}

@@ -1,0 +1,194 @@
+package java.util.regex;
+
+public final class Matcher implements MatchResult {
+    private final Pattern pattern;
+    private String text;
+    private int[] places;
+    private int next;
+    private int appended;
+
+    Matcher(Pattern pattern, String text) {
+        this.pattern = pattern;
+        this.text = text;
+    }
+
+    private boolean at(int from, boolean whole) {
+        int[] found = new int[2 * pattern.groups + 2];
+        for (int i = 1; i < found.length; i++) {
+            found[i] = -1;
+        }
+        found[0] = from;
+        places = pattern.match(new Pattern.Run(text, whole, found), from) ? found : null;
+        if (places != null) {
+            next = places[1] == from ? from + 1 : places[1];
+        }
+        return places != null;
+    }
+
+    public boolean matches() {
+        return at(0, true);
+    }
+
+    public boolean lookingAt() {
+        return at(0, false);
+    }
+
+    public boolean find() {
+        for (int i = next; i <= text.length(); i++) {
+            if (at(i, false)) {
+                return true;
+            }
+        }
+        next = text.length() + 1;
+        places = null;
+        return false;
+    }
+
+    public boolean find(int from) {
+        if (from < 0 || from > text.length()) {
+            throw new IndexOutOfBoundsException("Illegal start index");
+        }
+        reset();
+        next = from;
+        return find();
+    }
+
+    public Matcher reset() {
+        next = 0;
+        appended = 0;
+        places = null;
+        return this;
+    }
+
+    public Matcher reset(CharSequence text) {
+        this.text = text.toString();
+        return reset();
+    }
+
+    public Pattern pattern() {
+        return pattern;
+    }
+
+    public boolean hitEnd() {
+        return next >= text.length();
+    }
+
+    // ---- where it matched
+
+    private int place(int group, int end) {
+        if (places == null) {
+            throw new IllegalStateException("No match available");
+        }
+        if (group < 0 || group > pattern.groups) {
+            throw new IndexOutOfBoundsException("No group " + group);
+        }
+        return places[2 * group + 1] < 0 ? -1 : places[2 * group + end];
+    }
+
+    public int start() {
+        return place(0, 0);
+    }
+
+    public int start(int group) {
+        return place(group, 0);
+    }
+
+    public int end() {
+        return place(0, 1);
+    }
+
+    public int end(int group) {
+        return place(group, 1);
+    }
+
+    public int groupCount() {
+        return pattern.groups;
+    }
+
+    public String group() {
+        return group(0);
+    }
+
+    public String group(int group) {
+        if (places == null) {
+            throw new IllegalStateException("No match found");
+        }
+        int from = place(group, 0);
+        return from < 0 ? null : text.substring(from, place(group, 1));
+    }
+
+    public MatchResult toMatchResult() {
+        Matcher copy = new Matcher(pattern, text);
+        copy.places = places;
+        return copy;
+    }
+
+    // ---- replacing
+
+    public static String quoteReplacement(String text) {
+        return text.replace("\\", "\\\\").replace("$", "\\$");
+    }
+
+    private void appendTo(StringBuilder out, String by) {
+        out.append(text, appended, start());
+        appended = end();
+        for (int i = 0; i < by.length(); i++) {
+            char c = by.charAt(i);
+            if (c == '\\') {
+                i++;
+                if (i == by.length()) {
+                    throw new IllegalArgumentException("character to be escaped is missing");
+                }
+                out.append(by.charAt(i));
+            } else if (c == '$') {
+                i++;
+                if (i == by.length() || !Character.isDigit(by.charAt(i))) {
+                    throw new IllegalArgumentException("Illegal group reference");
+                }
+                int group = by.charAt(i) - '0';
+                while (i + 1 < by.length() && Character.isDigit(by.charAt(i + 1))
+                        && 10 * group + by.charAt(i + 1) - '0' <= pattern.groups) {
+                    i++;
+                    group = 10 * group + by.charAt(i) - '0';
+                }
+                String found = group(group);
+                out.append(found == null ? "" : found);
+            } else {
+                out.append(c);
+            }
+        }
+    }
+
+    public Matcher appendReplacement(StringBuffer out, String by) {
+        StringBuilder more = new StringBuilder();
+        appendTo(more, by);
+        out.append(more);
+        return this;
+    }
+
+    public StringBuffer appendTail(StringBuffer out) {
+        return out.append(text, appended, text.length());
+    }
+
+    private String replaced(String by, boolean all) {
+        reset();
+        StringBuilder out = new StringBuilder();
+        boolean found = find();
+        if (!found) {
+            return text;
+        }
+        while (found) {
+            appendTo(out, by);
+            found = all && find();
+        }
+        return out.append(text, appended, text.length()).toString();
+    }
+
+    public String replaceAll(String by) {
+        return replaced(by, true);
+    }
+
+    public String replaceFirst(String by) {
+        return replaced(by, false);
+    }
+}
