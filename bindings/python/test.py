@@ -50,9 +50,8 @@ def main():
             assert (error.fault.name, error.file, error.code) == (fault, 0, jvhost.Code.NO_LIBRARY)
     folder = os.path.join(root, "library", "classes")
     with jvhost.Host(library=[read(folder, name) for name in sorted(os.listdir(folder))]) as host:
-        words = os.path.join(root, "examples", "library", "sums")
-        files = [read(words, name) for name in sorted(os.listdir(words)) if name.endswith(".class")]
-        host.admit(files, read(words, "main").decode().strip(), b"1 2 3\n")
+        sums = os.path.join(root, "examples", "library", "sums")
+        host.admit([read(sums, "Sums.class")], "Sums", read(sums, "input"))
         host.run(1_000, 10_000)
         assert host.observe(0).end == jvhost.End.RETURNED and host.observe(0).output != b""
     thrower = jvhost.Host()
