@@ -31,7 +31,7 @@ public class BufferedReader extends CharReader {
     }
 
     public boolean ready() throws IOException {
-        return next >= 0 || in.ready();
+        return next == NONE ? in.ready() : next >= 0;
     }
 
     public void close() throws IOException {

@@ -49,7 +49,7 @@ public class InputStreamReader extends CharReader {
             low = -1;
             return c;
         }
-        int b = next == NONE && isHost ? host.Io.read() : take();
+        int b = next == NONE && isHost && HostInput.waiting == HostInput.NONE ? host.Io.read() : take();
         return b < 0x80 ? b : charset == StandardCharsets.UTF_8 ? several(b) : charset == StandardCharsets.US_ASCII ? 0xfffd : b;
     }
 

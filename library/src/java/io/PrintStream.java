@@ -184,6 +184,10 @@ public class PrintStream extends OutputStream implements Appendable {
         return this;
     }
 
+    public PrintStream append(CharSequence text, int from, int to) {
+        return append(String.valueOf(text).subSequence(from, to));
+    }
+
     public PrintStream printf(java.util.Locale locale, String format, Object... values) {
         return printf(format, values);
     }

@@ -169,6 +169,10 @@ public class PrintWriter extends CharWriter {
         return this;
     }
 
+    public PrintWriter append(CharSequence text, int from, int to) {
+        return append(String.valueOf(text).subSequence(from, to));
+    }
+
     public PrintWriter printf(java.util.Locale locale, String format, Object... values) {
         return printf(format, values);
     }

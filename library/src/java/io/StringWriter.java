@@ -27,6 +27,10 @@ public class StringWriter extends CharWriter {
         return this;
     }
 
+    public StringWriter append(CharSequence more, int from, int to) {
+        return append(String.valueOf(more).subSequence(from, to));
+    }
+
     public StringBuffer getBuffer() {
         return text;
     }

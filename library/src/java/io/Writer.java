@@ -36,7 +36,7 @@ public abstract class Writer implements Closeable, Flushable, Appendable {
     }
 
     public Writer append(CharSequence text, int from, int to) throws IOException {
-        return append(text.subSequence(from, to));
+        return append(String.valueOf(text).subSequence(from, to));
     }
 
     public abstract void flush() throws IOException;

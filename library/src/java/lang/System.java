@@ -4,7 +4,7 @@ import java.io.InputStream;
 import java.io.PrintStream;
 
 public final class System {
-    public static final InputStream in = new Input();
+    public static final InputStream in = new java.io.HostInput();
     public static final PrintStream out = new PrintStream(new java.io.HostOutput());
     public static final PrintStream err = new PrintStream(null);
 
@@ -181,12 +181,6 @@ public final class System {
 
     /** What ends a guest; nothing catches it but what catches any Throwable. */
     private static final class Exit extends Error {
-    }
-
-    private static final class Input extends InputStream {
-        public int read() {
-            return host.Io.read();
-        }
     }
 
     public static String getProperty(String name, String other) {

@@ -947,6 +947,30 @@ public class Arrays {
         return Collections.binarySearch(new Items<T>(a), key, order);
     }
 
+    public static int binarySearch(Object[] a, int from, int to, Object key) {
+        return binarySearch(a, from, to, key, null);
+    }
+
+    public static <T> int binarySearch(T[] a, int from, int to, T key, Comparator<? super T> order) {
+        check(from, to, a.length);
+        int at = Collections.binarySearch(new Items<T>(a).subList(from, to), key, order);
+        return at < 0 ? at - from : at + from;
+    }
+
+    public static void setAll(int[] a, java.util.function.IntUnaryOperator of) {
+        Objects.requireNonNull(of);
+        for (int i = 0; i < a.length; i++) {
+            a[i] = of.applyAsInt(i);
+        }
+    }
+
+    public static <T> void setAll(T[] a, java.util.function.IntFunction<? extends T> of) {
+        Objects.requireNonNull(of);
+        for (int i = 0; i < a.length; i++) {
+            a[i] = of.apply(i);
+        }
+    }
+
     public static <T> List<T> asList(T... items) {
         return new Items<T>(items);
     }

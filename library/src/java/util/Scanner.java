@@ -167,6 +167,18 @@ public final class Scanner implements Iterator<String>, java.io.Closeable {
         return taken(t);
     }
 
+    public boolean hasNext(Pattern pattern) {
+        return find() && pattern.matcher(found()).matches();
+    }
+
+    public String next(Pattern pattern) {
+        String t = token();
+        if (!pattern.matcher(t).matches()) {
+            throw new InputMismatchException();
+        }
+        return taken(t);
+    }
+
     // ---- numbers
 
     /** A number's digits and sign alone: groups of three digits may have commas between. Null where it is none. */

@@ -79,6 +79,34 @@ public class Vector<E> extends ItemList<E> implements List<E>, RandomAccess, Clo
         return get(size() - 1);
     }
 
+    public int indexOf(Object o, int from) {
+        for (int i = from; i < size(); i++) {
+            if (Objects.equals(o, get(i))) {
+                return i;
+            }
+        }
+        return -1;
+    }
+
+    public int lastIndexOf(Object o, int from) {
+        if (from >= size()) {
+            throw new IndexOutOfBoundsException(from + " >= " + size());
+        }
+        for (int i = from; i >= 0; i--) {
+            if (Objects.equals(o, get(i))) {
+                return i;
+            }
+        }
+        return -1;
+    }
+
+    public void setSize(int size) {
+        while (size() < size) {
+            add(null);
+        }
+        removeRange(size, size());
+    }
+
     public void removeAllElements() {
         clear();
     }
