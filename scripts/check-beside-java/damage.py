@@ -57,13 +57,13 @@ def parts_of_code(spelled, at, texts):
     return parts
 
 
-def damaged(spelled, parts):
+def damaged(spelled, parts, draw=random):
     changed = bytearray(spelled)
-    for _ in range(random.choice((1, 1, 1, 2))):
-        start, end = random.choice(parts)
-        at = random.randrange(start, end)
-        changed[at] = random.choice(
-            (random.randrange(256), (changed[at] + random.choice((1, 2, 254, 255))) % 256, changed[random.randrange(start, end)])
+    for _ in range(draw.choice((1, 1, 1, 2))):
+        start, end = draw.choice(parts)
+        at = draw.randrange(start, end)
+        changed[at] = draw.choice(
+            (draw.randrange(256), (changed[at] + draw.choice((1, 2, 254, 255))) % 256, changed[draw.randrange(start, end)])
         )
     return bytes(changed)
 
