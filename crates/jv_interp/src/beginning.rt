@@ -9,6 +9,7 @@ use crate::first::Started;
 use crate::guest::Guest;
 use crate::starting::start;
 use crate::verified::verified_classes;
+use jv_interp_control::Program;
 use jv_interp_members::Methods;
 use jv_interp_objects::Texts;
 use jv_link_cache::link;
@@ -51,13 +52,17 @@ fn begin_in_room<'a, S: Store>(
     let methods = Methods::of(alloc, classes, &linked)?;
     let texts = Texts::of(alloc, state, classes)?;
     let verified = verified_classes(alloc, &judged)?;
+    let program = Program {
+        classes,
+        methods: &methods,
+        texts: &texts,
+        verified: &verified,
+    };
     let Started {
         frames,
         control,
         held,
-    } = start(
-        alloc, classes, &linked, &methods, &texts, &verified, main, input, budget, store,
-    )?;
+    } = start(alloc, &program, &linked, main, input, budget, store)?;
     Ok(Guest {
         judged,
         linked,

@@ -12,10 +12,9 @@ use crate::budget::Budget;
 use crate::main_method::number_of;
 use crate::room::start_memory;
 use crate::states::start_states;
-use jv_interp_control::{Control, End, Frames};
+use jv_interp_control::{Control, End, Frames, Program};
 use jv_interp_held::Held;
 use jv_interp_members::Methods;
-use jv_interp_objects::Texts;
 use jv_link_cache::Linked;
 use jv_loader::{Classes, Place};
 use jv_store::{OutOfMemory, Store};
@@ -72,23 +71,21 @@ fn first_control(
 /// Where the host had no memory for it; the store is then as it was.
 pub(crate) fn first_kept<S: Store>(
     alloc: Global,
-    classes: &Classes<'_>,
+    program: &Program<'_, '_>,
     linked: &Linked<'_>,
-    methods: &Methods<'_>,
-    texts: &Texts<'_>,
     place: Option<Place>,
     input: &[u8],
     budget: Budget,
     store: &mut S,
 ) -> Result<Started, OutOfMemory>
-    requires linked { IsLinked classes.now.world linked.now }
-    requires methods { AreMethods classes.now.world methods.now }
-    requires texts { AreTexts classes.now.world texts.now }
-    requires place { IfSome place (IsMethodPlace classes.now.world) }
+    requires linked { IsLinked program.now.classes.now.world linked.now }
+    requires methods { AreMethods program.now.classes.now.world program.now.methods.now }
+    requires texts { AreTexts program.now.classes.now.world program.now.texts.now }
+    requires place { IfSome place (IsMethodPlace program.now.classes.now.world) }
     requires some { 4 ≤ budget.cells }
     requires cells { budget.cells ≤ S.room_left store.old }
     ensures stands { IfOk result (λ first.
-        FirstStands classes.now.world texts.now.names place input.now budget first (S.content store.new)) }
+        FirstStands program.now.classes.now.world program.now.texts.now.names place input.now budget first (S.content store.new)) }
     ensures made { IfOk result (λ first.
         BothJoin first.held.out_of_memory first.held.arguments (S.content store.old) (S.content store.new)) }
     ensures paid { IfOk result (λ first. first.held.cells + 4 ≡ budget.cells) }
@@ -97,11 +94,11 @@ pub(crate) fn first_kept<S: Store>(
     ensures refused_room { OnErr result (S.room_left store.new ≡ S.room_left store.old) }
 {
     let frames = first_frames(alloc, budget.words)?;
-    let control = first_control(alloc, classes, methods, place)?;
+    let control = first_control(alloc, program.classes, program.methods, place)?;
     let held = start_memory(
         alloc,
         linked.static_words(),
-        texts.names.count(),
+        program.texts.names.count(),
         input,
         budget.cells,
         budget.output,

@@ -7,11 +7,10 @@ ghost use Rattle.jv_interp_members.specs.Methods.{AreMethods};
 ghost use Rattle.jv_interp_control.specs.Standing.{kept, CanMove, Moved};
 ghost use Rattle.jv_interp.specs.Opening.{Opening};
 
-use jv_interp_control::{Control, End, Frames, begin};
+use jv_interp_control::{Control, End, Frames, Program, begin};
 use jv_interp_held::Held;
-use jv_interp_members::Methods;
 use jv_link_cache::Linked;
-use jv_loader::{Classes, Place};
+use jv_loader::Place;
 use jv_store::{OutOfMemory, Store};
 
 /// Begins the class of the main method, which is at a place; where there is none the guest has ended (own).
@@ -20,24 +19,23 @@ use jv_store::{OutOfMemory, Store};
 ///
 /// Where the host had no memory for an exception that is thrown at once; all is then as it was.
 pub(crate) fn begin_main<S: Store>(
-    classes: &Classes<'_>,
+    program: &Program<'_, '_>,
     linked: &Linked<'_>,
-    methods: &Methods<'_>,
-    verified: &[bool],
     frames: &mut Frames,
     control: &mut Control,
     held: &mut Held,
     store: &mut S,
     place: Option<Place>,
 ) -> Result<(), OutOfMemory>
-    requires can { CanMove classes.now.world (Opening place verified.now) (kept frames.old control.old held.old (S.content store.old)) }
-    requires linked { IsLinked classes.now.world linked.now }
-    requires methods { AreMethods classes.now.world methods.now }
-    requires place { IfSome place (IsMethodPlace classes.now.world) }
-    requires few_classes { length classes.now.world < 2147483648 }
+    requires can { CanMove program.now.classes.now.world (Opening place program.now.verified.now)
+        (kept frames.old control.old held.old (S.content store.old)) }
+    requires linked { IsLinked program.now.classes.now.world linked.now }
+    requires methods { AreMethods program.now.classes.now.world program.now.methods.now }
+    requires place { IfSome place (IsMethodPlace program.now.classes.now.world) }
+    requires few_classes { length program.now.classes.now.world < 2147483648 }
     requires few { held.old.cells < 2147483648 }
     requires room { held.old.cells ≤ S.room_left store.old }
-    ensures begun { OnOk result (Moved classes.now.world (Opening place verified.now)
+    ensures begun { OnOk result (Moved program.now.classes.now.world (Opening place program.now.verified.now)
         (kept frames.old control.old held.old (S.content store.old))
         (kept frames.new control.new held.new (S.content store.new))) }
     ensures fewer { held.new.cells ≤ held.old.cells }
@@ -51,10 +49,8 @@ pub(crate) fn begin_main<S: Store>(
         return Ok(());
     };
     begin(
-        classes,
+        program,
         linked,
-        methods,
-        verified,
         frames,
         control,
         held,

@@ -11,13 +11,12 @@ use crate::beginning::begin;
 use crate::control::Control;
 use crate::entering::enter;
 use crate::frames::Frames;
+use crate::program::Program;
 use crate::suspending::{suspend, take_out};
 use crate::throws::{raise, throw};
 use jv_interp_held::{Effect, Held};
-use jv_interp_members::Methods;
 use jv_interp_words::Registers;
 use jv_link_cache::Linked;
-use jv_loader::Classes;
 use jv_store::{OutOfMemory, Store};
 
 /// How many words are in use without what is passed to the method that is entered.
@@ -39,10 +38,8 @@ fn top_without(effect: Effect, top: usize) -> usize
 /// Where the host had no memory for what is thrown; all is then as it was.
 #[inline(always)]
 fn do_above<S: Store>(
-    classes: &Classes<'_>,
+    program: &Program<'_, '_>,
     linked: &Linked<'_>,
-    methods: &Methods<'_>,
-    verified: &[bool],
     frames: &mut Frames,
     control: &mut Control,
     held: &mut Held,
@@ -50,14 +47,14 @@ fn do_above<S: Store>(
     effect: Effect,
 ) -> Result<(), OutOfMemory>
     requires above { IsAbove effect }
-    requires can { CanMove classes.now.world (Doing effect verified.now frames.old)
+    requires can { CanMove program.now.classes.now.world (Doing effect program.now.verified.now frames.old)
         (kept frames.old control.old held.old (S.content store.old)) }
-    requires linked { IsLinked classes.now.world linked.now }
-    requires methods { AreMethods classes.now.world methods.now }
-    requires few_classes { length classes.now.world < 2147483648 }
+    requires linked { IsLinked program.now.classes.now.world linked.now }
+    requires methods { AreMethods program.now.classes.now.world program.now.methods.now }
+    requires few_classes { length program.now.classes.now.world < 2147483648 }
     requires few { held.old.cells < 2147483648 }
     requires room { held.old.cells ≤ S.room_left store.old }
-    ensures done { OnOk result (Moved classes.now.world (Doing effect verified.now frames.old)
+    ensures done { OnOk result (Moved program.now.classes.now.world (Doing effect program.now.verified.now frames.old)
         (kept frames.old control.old held.old (S.content store.old))
         (kept frames.new control.new held.new (S.content store.new))) }
     ensures fewer { held.new.cells ≤ held.old.cells }
@@ -71,17 +68,36 @@ fn do_above<S: Store>(
 {
     match effect {
         Effect::Enters { method, words: _ } => enter(
-            classes, linked, methods, frames, control, held, store, method,
+            program.classes,
+            linked,
+            program.methods,
+            frames,
+            control,
+            held,
+            store,
+            method,
         ),
         Effect::Throws { address } => throw(
-            classes, linked, methods, frames, control, held, store, address,
+            program.classes,
+            linked,
+            program.methods,
+            frames,
+            control,
+            held,
+            store,
+            address,
         ),
         Effect::Raises { class } => raise(
-            classes, linked, methods, frames, control, held, store, class,
+            program.classes,
+            linked,
+            program.methods,
+            frames,
+            control,
+            held,
+            store,
+            class,
         ),
-        Effect::Begins { class } => begin(
-            classes, linked, methods, verified, frames, control, held, store, class,
-        ),
+        Effect::Begins { class } => begin(program, linked, frames, control, held, store, class),
         _ => unreachable!(),
     }
 }
@@ -92,10 +108,8 @@ fn do_above<S: Store>(
 ///
 /// Where the host had no memory for what is thrown; all is then as it was.
 pub(crate) fn act_above<'l, S: Store>(
-    classes: &Classes<'_>,
+    program: &Program<'_, '_>,
     linked: &Linked<'_>,
-    methods: &Methods<'_>,
-    verified: &[bool],
     frames: &mut Frames,
     control: &mut Control,
     held: &mut Held,
@@ -104,13 +118,14 @@ pub(crate) fn act_above<'l, S: Store>(
     effect: Effect,
 ) -> Result<(), OutOfMemory>
     requires above { IsAbove effect }
-    requires can { CanAct classes.now.world verified.now at effect (kept frames.old control.old held.old (S.content store.old)) }
-    requires linked { IsLinked classes.now.world linked.now }
-    requires methods { AreMethods classes.now.world methods.now }
-    requires few_classes { length classes.now.world < 2147483648 }
+    requires can { CanAct program.now.classes.now.world program.now.verified.now at effect
+        (kept frames.old control.old held.old (S.content store.old)) }
+    requires linked { IsLinked program.now.classes.now.world linked.now }
+    requires methods { AreMethods program.now.classes.now.world program.now.methods.now }
+    requires few_classes { length program.now.classes.now.world < 2147483648 }
     requires few { held.old.cells < 2147483648 }
     requires room { held.old.cells ≤ S.room_left store.old }
-    ensures acted { OnOk result (Acted classes.now.world verified.now at.entry effect
+    ensures acted { OnOk result (Acted program.now.classes.now.world program.now.verified.now at.entry effect
         (kept frames.old control.old held.old (S.content store.old))
         (kept frames.new control.new held.new (S.content store.new)) false) }
     ensures fewer { held.new.cells ≤ held.old.cells }
@@ -124,9 +139,7 @@ pub(crate) fn act_above<'l, S: Store>(
 {
     let top = frames.top;
     suspend(frames, at, top_without(effect, at.top));
-    match do_above(
-        classes, linked, methods, verified, frames, control, held, store, effect,
-    ) {
+    match do_above(program, linked, frames, control, held, store, effect) {
         Ok(()) => Ok(()),
         Err(refused) => {
             take_out(frames, top);

@@ -10,12 +10,11 @@ ghost use Rattle.jv_interp_control.specs.Acting.{CanAct, Acted, AreAsBefore};
 use crate::above::act_above;
 use crate::control::Control;
 use crate::frames::Frames;
+use crate::program::Program;
 use crate::returning::return_from;
 use jv_interp_held::{Effect, Held};
-use jv_interp_members::Methods;
 use jv_interp_words::Registers;
 use jv_link_cache::Linked;
-use jv_loader::Classes;
 use jv_store::{OutOfMemory, Store};
 
 /// What an instruction's effect asks for is done. Answers whether its method goes on in the registers; where it doesn't, it is left or
@@ -26,10 +25,8 @@ use jv_store::{OutOfMemory, Store};
 /// Where the host had no memory for what is thrown; the method's record is then taken out again, and all is as it was.
 #[inline(always)]
 pub fn act<'l, S: Store>(
-    classes: &Classes<'_>,
+    program: &Program<'_, '_>,
     linked: &Linked<'_>,
-    methods: &Methods<'_>,
-    verified: &[bool],
     frames: &mut Frames,
     control: &mut Control,
     held: &mut Held,
@@ -37,13 +34,14 @@ pub fn act<'l, S: Store>(
     at: Registers<'l>,
     effect: Effect,
 ) -> Result<bool, OutOfMemory>
-    requires can { CanAct classes.now.world verified.now at effect (kept frames.old control.old held.old (S.content store.old)) }
-    requires linked { IsLinked classes.now.world linked.now }
-    requires methods { AreMethods classes.now.world methods.now }
-    requires few_classes { length classes.now.world < 2147483648 }
+    requires can { CanAct program.now.classes.now.world program.now.verified.now at effect
+        (kept frames.old control.old held.old (S.content store.old)) }
+    requires linked { IsLinked program.now.classes.now.world linked.now }
+    requires methods { AreMethods program.now.classes.now.world program.now.methods.now }
+    requires few_classes { length program.now.classes.now.world < 2147483648 }
     requires few { held.old.cells < 2147483648 }
     requires room { held.old.cells ≤ S.room_left store.old }
-    ensures acted { IfOk result (Acted classes.now.world verified.now at.entry effect
+    ensures acted { IfOk result (Acted program.now.classes.now.world program.now.verified.now at.entry effect
         (kept frames.old control.old held.old (S.content store.old))
         (kept frames.new control.new held.new (S.content store.new))) }
     ensures goes { IfOk result (λ goes_on. IsTrue goes_on ↔ (effect ≡ Goes)) }
@@ -60,13 +58,11 @@ pub fn act<'l, S: Store>(
     match effect {
         Effect::Goes => Ok(true),
         Effect::Leaves { words } => {
-            return_from(methods, frames, control, at, words);
+            return_from(program.methods, frames, control, at, words);
             Ok(false)
         }
         _ => {
-            act_above(
-                classes, linked, methods, verified, frames, control, held, store, at, effect,
-            )?;
+            act_above(program, linked, frames, control, held, store, at, effect)?;
             Ok(false)
         }
     }

@@ -8,40 +8,38 @@ ghost use Rattle.jv_interp_control.specs.Moves.{Beginning};
 
 use crate::control::Control;
 use crate::frames::{Frames, push_record};
+use crate::program::Program;
 use crate::throws::raise;
 use jv_interp_heap::{NO_CLASS, STACK_OVERFLOW, VERIFY, system_has_numbers};
 use jv_interp_held::{ClassState, Held, mark_begun};
-use jv_interp_members::Methods;
 use jv_interp_words::{FrameRecord, InitializationRecord};
 use jv_link::class_at;
 use jv_link_cache::Linked;
-use jv_loader::Classes;
 use jv_store::{OutOfMemory, Store};
 
 /// The initialization of the class with a number is begun, by its state (JVMS 5.5, steps 3 to 6): where it goes on or is done, nothing is
 /// done; where it ended in a throw a NoClassDefFoundError is thrown, where the class was not verified a VerifyError, and where its words
-/// are not left a StackOverflowError. `verified` tells of each class, by its number, whether it and all above it were accepted.
+/// are not left a StackOverflowError.
 ///
 /// # Errors
 ///
 /// Where the host had no memory for what is thrown; all is then as it was.
 pub fn begin<S: Store>(
-    classes: &Classes<'_>,
+    program: &Program<'_, '_>,
     linked: &Linked<'_>,
-    methods: &Methods<'_>,
-    verified: &[bool],
     frames: &mut Frames,
     control: &mut Control,
     held: &mut Held,
     store: &mut S,
     class: u32,
 ) -> Result<(), OutOfMemory>
-    requires can { CanMove classes.now.world (Beginning class verified.now) (kept frames.old control.old held.old (S.content store.old)) }
-    requires linked { IsLinked classes.now.world linked.now }
-    requires methods { AreMethods classes.now.world methods.now }
+    requires can { CanMove program.now.classes.now.world (Beginning class program.now.verified.now)
+        (kept frames.old control.old held.old (S.content store.old)) }
+    requires linked { IsLinked program.now.classes.now.world linked.now }
+    requires methods { AreMethods program.now.classes.now.world program.now.methods.now }
     requires few { held.old.cells < 2147483648 }
     requires room { held.old.cells ≤ S.room_left store.old }
-    ensures begun { OnOk result (Moved classes.now.world (Beginning class verified.now)
+    ensures begun { OnOk result (Moved program.now.classes.now.world (Beginning class program.now.verified.now)
         (kept frames.old control.old held.old (S.content store.old))
         (kept frames.new control.new held.new (S.content store.new))) }
     ensures fewer { held.new.cells ≤ held.old.cells }
@@ -54,28 +52,42 @@ pub fn begin<S: Store>(
     ensures sure { IsTrue S.SURE → IsOk result }
 {
     system_has_numbers();
-    let table = classes.table();
+    let table = program.classes.table();
     table.is_numbered();
     match control.states[class as usize] {
         ClassState::Begun => return Ok(()),
         ClassState::Initialized => return Ok(()),
         ClassState::Erroneous => {
             return raise(
-                classes, linked, methods, frames, control, held, store, NO_CLASS,
+                program.classes,
+                linked,
+                program.methods,
+                frames,
+                control,
+                held,
+                store,
+                NO_CLASS,
             );
         }
         ClassState::Untouched => {}
     }
-    if !verified[class as usize] {
+    if !program.verified[class as usize] {
         return raise(
-            classes, linked, methods, frames, control, held, store, VERIFY,
+            program.classes,
+            linked,
+            program.methods,
+            frames,
+            control,
+            held,
+            store,
+            VERIFY,
         );
     }
     if frames.left < 4 {
         return raise(
-            classes,
+            program.classes,
             linked,
-            methods,
+            program.methods,
             frames,
             control,
             held,

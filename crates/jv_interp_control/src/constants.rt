@@ -21,16 +21,16 @@ ghost use Rattle.jv_interp_control.specs.Inside.Constants.{seen_constant, HasIts
 
 use crate::control::Control;
 use crate::frames::Frames;
+use crate::program::Program;
 use crate::statics::{put_int, put_long, put_reference};
 use crate::throws::throw;
 use jv_class::ConstantValue;
 use jv_interp_heap::Narrowing;
 use jv_interp_held::Held;
-use jv_interp_members::Methods;
 use jv_interp_objects::{Texts, literal};
 use jv_link::{class_at, field_at};
 use jv_link_cache::Linked;
-use jv_loader::{ClassTable, Classes, Place};
+use jv_loader::{ClassTable, Place};
 use jv_pool::Pool;
 use jv_store::{OutOfMemory, Store};
 use jv_text::{Base, Element, field_type, types_agree};
@@ -123,10 +123,8 @@ fn constant_of<'a>(
 ///
 /// Where the host had no memory for it; all is then as it was.
 pub(crate) fn set_constant<'a, S: Store>(
-    classes: &Classes<'a>,
+    program: &Program<'_, 'a>,
     linked: &Linked<'a>,
-    methods: &Methods<'a>,
-    texts: &Texts<'a>,
     frames: &mut Frames,
     control: &mut Control,
     held: &mut Held,
@@ -134,14 +132,14 @@ pub(crate) fn set_constant<'a, S: Store>(
     class: u32,
     member: usize,
 ) -> Result<(), OutOfMemory>
-    requires can { CanMoveWith classes.now.world texts.now.names (Setting class member)
+    requires can { CanMoveWith program.now.classes.now.world program.now.texts.now.names (Setting class member)
         (kept frames.old control.old held.old (S.content store.old)) }
-    requires linked { IsLinked classes.now.world linked.now }
-    requires methods { AreMethods classes.now.world methods.now }
-    requires texts { AreTexts classes.now.world texts.now }
+    requires linked { IsLinked program.now.classes.now.world linked.now }
+    requires methods { AreMethods program.now.classes.now.world program.now.methods.now }
+    requires texts { AreTexts program.now.classes.now.world program.now.texts.now }
     requires few { held.old.cells < 2147483648 }
     requires room { held.old.cells ≤ S.room_left store.old }
-    ensures set { OnOk result (MovedWith classes.now.world texts.now.names (Setting class member)
+    ensures set { OnOk result (MovedWith program.now.classes.now.world program.now.texts.now.names (Setting class member)
         (kept frames.old control.old held.old (S.content store.old))
         (kept frames.new control.new held.new (S.content store.new))) }
     ensures room { OnOk result (S.room_left store.old + held.new.cells ≡ S.room_left store.new + held.old.cells) }
@@ -152,13 +150,13 @@ pub(crate) fn set_constant<'a, S: Store>(
     ensures refused_room { OnErr result (S.room_left store.new ≡ S.room_left store.old) }
     ensures sure { IsTrue S.SURE → IsOk result }
 {
-    let table = classes.table();
+    let table = program.classes.table();
     let place = Place {
         class: class as usize,
         member,
     };
     let word = linked.word_of(place);
-    match constant_of(texts, table, class as usize, member) {
+    match constant_of(program.texts, table, class as usize, member) {
         Some(Constant::Int(number)) => {
             let how = narrowing_in(field_at(table, place).descriptor);
             put_int(held, word, number, how);
@@ -169,7 +167,7 @@ pub(crate) fn set_constant<'a, S: Store>(
             Ok(())
         }
         Some(Constant::Text(number, text)) => {
-            let count = texts.count(number);
+            let count = program.texts.count(number);
             match literal(store, held, number as usize, text, count)? {
                 Some(address) => {
                     put_reference(held, word, address);
@@ -178,7 +176,14 @@ pub(crate) fn set_constant<'a, S: Store>(
                 None => {
                     let error = held.out_of_memory;
                     throw(
-                        classes, linked, methods, frames, control, held, store, error,
+                        program.classes,
+                        linked,
+                        program.methods,
+                        frames,
+                        control,
+                        held,
+                        store,
+                        error,
                     )
                 }
             }

@@ -16,13 +16,12 @@ use crate::control::Control;
 use crate::entering::enter;
 use crate::finishing::finish;
 use crate::frames::{Frames, push_record};
+use crate::program::Program;
 use crate::tasks::{Task, next_task};
 use jv_interp_held::Held;
-use jv_interp_members::Methods;
-use jv_interp_objects::Texts;
 use jv_interp_words::{FrameRecord, InitializationRecord};
 use jv_link_cache::Linked;
-use jv_loader::{Classes, Place};
+use jv_loader::Place;
 use jv_store::{OutOfMemory, Store};
 
 /// A task of the class with a number is done.
@@ -31,11 +30,8 @@ use jv_store::{OutOfMemory, Store};
 ///
 /// Where the host had no memory for it; all is then as it was.
 fn do_task<'a, S: Store>(
-    classes: &Classes<'a>,
+    program: &Program<'_, 'a>,
     linked: &Linked<'a>,
-    methods: &Methods<'a>,
-    texts: &Texts<'a>,
-    verified: &[bool],
     frames: &mut Frames,
     control: &mut Control,
     held: &mut Held,
@@ -43,14 +39,15 @@ fn do_task<'a, S: Store>(
     class: u32,
     task: Task,
 ) -> Result<(), OutOfMemory>
-    requires can { CanMoveWith classes.now.world texts.now.names (DoingTask class task verified.now)
+    requires can { CanMoveWith program.now.classes.now.world program.now.texts.now.names (DoingTask class task program.now.verified.now)
         (kept frames.old control.old held.old (S.content store.old)) }
-    requires linked { IsLinked classes.now.world linked.now }
-    requires methods { AreMethods classes.now.world methods.now }
-    requires texts { AreTexts classes.now.world texts.now }
+    requires linked { IsLinked program.now.classes.now.world linked.now }
+    requires methods { AreMethods program.now.classes.now.world program.now.methods.now }
+    requires texts { AreTexts program.now.classes.now.world program.now.texts.now }
     requires few { held.old.cells < 2147483648 }
     requires room { held.old.cells ≤ S.room_left store.old }
-    ensures done { OnOk result (MovedWith classes.now.world texts.now.names (DoingTask class task verified.now)
+    ensures done { OnOk result (MovedWith program.now.classes.now.world program.now.texts.now.names
+        (DoingTask class task program.now.verified.now)
         (kept frames.old control.old held.old (S.content store.old))
         (kept frames.new control.new held.new (S.content store.new))) }
     ensures room { OnOk result (S.room_left store.old + held.new.cells ≡ S.room_left store.new + held.old.cells) }
@@ -63,18 +60,23 @@ fn do_task<'a, S: Store>(
 {
     match task {
         Task::Sets(member) => set_constant(
-            classes, linked, methods, texts, frames, control, held, store, class, member,
+            program, linked, frames, control, held, store, class, member,
         ),
-        Task::Begins(number) => begin(
-            classes, linked, methods, verified, frames, control, held, store, number,
-        ),
+        Task::Begins(number) => begin(program, linked, frames, control, held, store, number),
         Task::Runs(member) => {
-            let method = methods.number_of(Place {
+            let method = program.methods.number_of(Place {
                 class: class as usize,
                 member,
             });
             enter(
-                classes, linked, methods, frames, control, held, store, method,
+                program.classes,
+                linked,
+                program.methods,
+                frames,
+                control,
+                held,
+                store,
+                method,
             )
         }
     }
@@ -101,25 +103,23 @@ fn take_initialization(frames: &mut Frames) -> InitializationRecord
 ///
 /// Where the host had no memory for it; all is then as it was.
 pub fn initialization_step<'a, S: Store>(
-    classes: &Classes<'a>,
+    program: &Program<'_, 'a>,
     linked: &Linked<'a>,
-    methods: &Methods<'a>,
-    texts: &Texts<'a>,
-    verified: &[bool],
     frames: &mut Frames,
     control: &mut Control,
     held: &mut Held,
     store: &mut S,
 ) -> Result<(), OutOfMemory>
-    requires can { CanMoveWith classes.now.world texts.now.names (Initializing verified.now)
+    requires can { CanMoveWith program.now.classes.now.world program.now.texts.now.names (Initializing program.now.verified.now)
         (kept frames.old control.old held.old (S.content store.old)) }
-    requires linked { IsLinked classes.now.world linked.now }
-    requires methods { AreMethods classes.now.world methods.now }
-    requires texts { AreTexts classes.now.world texts.now }
-    requires few_classes { length classes.now.world < 2147483648 }
+    requires linked { IsLinked program.now.classes.now.world linked.now }
+    requires methods { AreMethods program.now.classes.now.world program.now.methods.now }
+    requires texts { AreTexts program.now.classes.now.world program.now.texts.now }
+    requires few_classes { length program.now.classes.now.world < 2147483648 }
     requires few { held.old.cells < 2147483648 }
     requires room { held.old.cells ≤ S.room_left store.old }
-    ensures done { OnOk result (MovedWith classes.now.world texts.now.names (Initializing verified.now)
+    ensures done { OnOk result (MovedWith program.now.classes.now.world program.now.texts.now.names
+        (Initializing program.now.verified.now)
         (kept frames.old control.old held.old (S.content store.old))
         (kept frames.new control.new held.new (S.content store.new))) }
     ensures room { OnOk result (S.room_left store.old + held.new.cells ≡ S.room_left store.new + held.old.cells) }
@@ -131,9 +131,16 @@ pub fn initialization_step<'a, S: Store>(
     ensures sure { IsTrue S.SURE → IsOk result }
 {
     let own = take_initialization(frames);
-    let Some(next) = next_task(classes.table(), linked, &control.states, own) else {
+    let Some(next) = next_task(program.classes.table(), linked, &control.states, own) else {
         return match finish(
-            classes, linked, methods, frames, control, held, store, own.class,
+            program.classes,
+            linked,
+            program.methods,
+            frames,
+            control,
+            held,
+            store,
+            own.class,
         ) {
             Ok(()) => Ok(()),
             Err(refused) => {
@@ -150,8 +157,7 @@ pub fn initialization_step<'a, S: Store>(
         }),
     );
     match do_task(
-        classes, linked, methods, texts, verified, frames, control, held, store, own.class,
-        next.task,
+        program, linked, frames, control, held, store, own.class, next.task,
     ) {
         Ok(()) => Ok(()),
         Err(refused) => {

@@ -14,7 +14,7 @@ ghost use Rattle.jv_interp_steps.specs.Stepping.{CanStepIn, SteppedIn};
 
 use crate::decoding::site_of;
 use jv_code::Insn;
-use jv_interp_control::{Control, Frames, act};
+use jv_interp_control::{Control, Frames, Program, act};
 use jv_interp_held::{Effect, Held};
 use jv_interp_instructions::Execution;
 use jv_interp_members::Methods;
@@ -90,9 +90,15 @@ pub(crate) fn step_by<'a, 'l, E: Execution, S: Store>(
         insn,
     ) {
         Ok(Effect::Goes) => Ok(true),
-        Ok(effect) => act(
-            classes, linked, methods, verified, frames, control, held, store, *at, effect,
-        ),
+        Ok(effect) => {
+            let program = Program {
+                classes,
+                methods,
+                texts,
+                verified,
+            };
+            act(&program, linked, frames, control, held, store, *at, effect)
+        }
         Err(refused) => Err(refused),
     }
 }

@@ -9,7 +9,7 @@ ghost use Rattle.jv_interp_steps.specs.Running.{CanRun, RanTo, CanRunIn, RanFrom
 
 use crate::alone::run_alone;
 use crate::stepping::step_in_method;
-use jv_interp_control::{Control, Frames, initialization_step, resume, suspend};
+use jv_interp_control::{Control, Frames, Program, initialization_step, resume, suspend};
 use jv_interp_held::{Held, steps_behind};
 use jv_interp_members::Methods;
 use jv_interp_objects::Texts;
@@ -159,19 +159,25 @@ pub fn run<'a, S: Store>(
                 }
                 left = turn.left;
             }
-            None => match initialization_step(
-                classes, linked, methods, texts, verified, frames, control, held, store,
-            ) {
-                Ok(()) => {
-                    left -= 1;
+            None => {
+                let program = Program {
+                    classes,
+                    methods,
+                    texts,
+                    verified,
+                };
+                match initialization_step(&program, linked, frames, control, held, store) {
+                    Ok(()) => {
+                        left -= 1;
+                    }
+                    Err(_) => {
+                        return Turn {
+                            left,
+                            refused: true,
+                        };
+                    }
                 }
-                Err(_) => {
-                    return Turn {
-                        left,
-                        refused: true,
-                    };
-                }
-            },
+            }
         }
     }
     Turn {

@@ -20,7 +20,7 @@ returns-clause-stands g c = λ program main error world_is guests found named.
           (c.in_ok-control.ensures main budget (subst IsGuestsWorld world_is guests)
           (subst (λ (w : World). IsMethodFound w c.args.place (main_method w main)) world_is found));
       memory =
-          c.in_ok-held.ensures.starts program.world c.args.texts.now.names budget error
+          c.in_ok-held.ensures.starts program.world c.args.program.now.texts.now.names budget error
           (record {
             guests = guests;
             statics = sym (c.static_words.ensures program.world (subst (λ (w : World). IsLinked w c.args.linked.now) (sym world_is) c.requires.linked));

@@ -18,12 +18,13 @@ is_above (effects.Begins number) g l = tt
 pub return_from-requires : goal.return_from-requires
 return_from-requires g c =
     let w = c.requires.can in
-    let world = c.args.classes.now.world in
+    let world = c.args.program.now.classes.now.world in
     let blocks = g.S.Store.content c.args.store.now in
     let h =
     subst (λ (e : Effect). Acting world c.args.at e w.program w.texts w.s w.t w.addresses (kept c.args.frames.now c.args.control.now c.args.held.now blocks)) c.in-Leaves.is
     w.acting in
-    let r = returns world c.args.at c.in-Leaves.words w.program w.texts w.s w.t w.addresses c.args.frames.now c.args.control.now c.args.held.now blocks h c.args.methods.now c.requires.methods in
+    let r = returns world c.args.at c.in-Leaves.words w.program w.texts w.s w.t w.addresses c.args.frames.now c.args.control.now c.args.held.now blocks h
+    c.args.program.now.methods.now c.requires.methods in
     record {
       can = record {
         program = w.program;
@@ -51,7 +52,7 @@ act_above-requires g c = record {
 
 pub returns-in-Goes-clause-acted : goal.returns-in-Goes-clause-acted
 returns-in-Goes-clause-acted g c = λ program texts s t addresses are h.
-    let world = c.args.classes.now.world in
+    let world = c.args.program.now.classes.now.world in
     let blocks = g.S.Store.content c.args.store.now in (
       refl,
       runs_on world c.args.at program texts s t addresses c.args.frames.now c.args.control.now c.args.held.now blocks
@@ -60,11 +61,11 @@ returns-in-Goes-clause-acted g c = λ program texts s t addresses are h.
 
 pub returns-in-Leaves-clause-acted : goal.returns-in-Leaves-clause-acted
 returns-in-Leaves-clause-acted g c = λ program texts s t addresses are h.
-    let world = c.args.classes.now.world in
+    let world = c.args.program.now.classes.now.world in
     let blocks = g.S.Store.content c.args.store.now in
     let k = subst (λ (e : Effect). Acting world c.args.at e program texts s t addresses (kept c.args.frames.now c.args.control.now c.args.held.now blocks)) c.in-Leaves.is h in
-    let r = returns world c.args.at c.in-Leaves.words program texts s t addresses c.args.frames.now c.args.control.now c.args.held.now blocks k c.args.methods.now c.requires.methods in
-    left_reaches world c.args.at c.in-Leaves.words program texts s t addresses c.args.frames.now c.args.control.now c.args.held.now blocks k c.args.methods.now c.requires.methods
+    let r = returns world c.args.at c.in-Leaves.words program texts s t addresses c.args.frames.now c.args.control.now c.args.held.now blocks k c.args.program.now.methods.now c.requires.methods in
+    left_reaches world c.args.at c.in-Leaves.words program texts s t addresses c.args.frames.now c.args.control.now c.args.held.now blocks k c.args.program.now.methods.now c.requires.methods
     c.return_from.new.frames c.return_from.new.control (c.return_from.ensures program addresses _ _ _ _ r.result t r.returning)
 
 pub returns-in_ok-act_above-in_default : goal.returns-in_ok-act_above-in_default

@@ -21,153 +21,153 @@ index-requires g c =
     let size = c.args.control.now.states.ok.0 in
     let low =
     slice_get_within c.args.control.now.states.items c.args.class _
-    (kept_now c.args.classes.now.world c.args.class c.args.verified.now w.program w.texts w.s w.t w.addresses c.args.frames.now c.args.control.now
+    (kept_now c.args.program.now.classes.now.world c.args.class c.args.program.now.verified.now w.program w.texts w.s w.t w.addresses c.args.frames.now c.args.control.now
     c.args.held.now (g.S.Store.content c.args.store.now) w.moves) in
     omega (arith, size, low)
 
 pub returns-in-Begun-clause-begun : goal.returns-in-Begun-clause-begun
 returns-in-Begun-clause-begun g c = λ program texts s t addresses h.
     let low = slice_get_within c.args.control.now.states.items c.args.class _
-    (kept_now c.args.classes.now.world c.args.class c.args.verified.now program texts s t addresses c.args.frames.now c.args.control.now
+    (kept_now c.args.program.now.classes.now.world c.args.class c.args.program.now.verified.now program texts s t addresses c.args.frames.now c.args.control.now
     c.args.held.now (g.S.Store.content c.args.store.now) h) in
     let there = slice_get-get_or c.args.control.now.states.items c.args.class c.index.result.now low ∙ ap Some (sym c.index.ensures) in
-    let state = is_state c.args.classes.now.world c.args.class c.args.verified.now program texts s t addresses c.args.frames.now c.args.control.now
+    let state = is_state c.args.program.now.classes.now.world c.args.class c.args.program.now.verified.now program texts s t addresses c.args.frames.now c.args.control.now
     c.args.held.now (g.S.Store.content c.args.store.now) h c.index.result.now there in
-    no_change c.args.classes.now.world c.args.class c.args.verified.now program texts s t addresses c.args.frames.now c.args.control.now
+    no_change c.args.program.now.classes.now.world c.args.class c.args.program.now.verified.now program texts s t addresses c.args.frames.now c.args.control.now
     c.args.held.now (g.S.Store.content c.args.store.now) h c.index.result.now state c.in-Begun.is
 
 pub returns-in-Initialized-clause-begun : goal.returns-in-Initialized-clause-begun
 returns-in-Initialized-clause-begun g c = λ program texts s t addresses h.
     let low = slice_get_within c.args.control.now.states.items c.args.class _
-    (kept_now c.args.classes.now.world c.args.class c.args.verified.now program texts s t addresses c.args.frames.now c.args.control.now
+    (kept_now c.args.program.now.classes.now.world c.args.class c.args.program.now.verified.now program texts s t addresses c.args.frames.now c.args.control.now
     c.args.held.now (g.S.Store.content c.args.store.now) h) in
     let there = slice_get-get_or c.args.control.now.states.items c.args.class c.index.result.now low ∙ ap Some (sym c.index.ensures) in
-    let state = is_state c.args.classes.now.world c.args.class c.args.verified.now program texts s t addresses c.args.frames.now c.args.control.now
+    let state = is_state c.args.program.now.classes.now.world c.args.class c.args.program.now.verified.now program texts s t addresses c.args.frames.now c.args.control.now
     c.args.held.now (g.S.Store.content c.args.store.now) h c.index.result.now there in
-    no_change_either c.args.classes.now.world c.args.class c.args.verified.now program texts s t addresses c.args.frames.now c.args.control.now
+    no_change_either c.args.program.now.classes.now.world c.args.class c.args.program.now.verified.now program texts s t addresses c.args.frames.now c.args.control.now
     c.args.held.now (g.S.Store.content c.args.store.now) h c.index.result.now state c.in-Initialized.is
 
 pub raise-requires-clause-can : goal.raise-requires-clause-can
 raise-requires-clause-can g c =
     let w = c.requires.can in
     let low = slice_get_within c.args.control.now.states.items c.args.class _
-    (kept_now c.args.classes.now.world c.args.class c.args.verified.now w.program w.texts w.s w.t w.addresses c.args.frames.now c.args.control.now
+    (kept_now c.args.program.now.classes.now.world c.args.class c.args.program.now.verified.now w.program w.texts w.s w.t w.addresses c.args.frames.now c.args.control.now
     c.args.held.now (g.S.Store.content c.args.store.now) w.moves) in
     let there = slice_get-get_or c.args.control.now.states.items c.args.class c.index.result.now low ∙ ap Some (sym c.index.ensures) in
-    let state = is_state c.args.classes.now.world c.args.class c.args.verified.now w.program w.texts w.s w.t w.addresses c.args.frames.now
+    let state = is_state c.args.program.now.classes.now.world c.args.class c.args.program.now.verified.now w.program w.texts w.s w.t w.addresses c.args.frames.now
     c.args.control.now c.args.held.now (g.S.Store.content c.args.store.now) w.moves c.index.result.now there in
-    let moves = raises_erroneous c.args.classes.now.world c.args.class c.args.verified.now w.program w.texts w.s w.t w.addresses c.args.frames.now
+    let moves = raises_erroneous c.args.program.now.classes.now.world c.args.class c.args.program.now.verified.now w.program w.texts w.s w.t w.addresses c.args.frames.now
     c.args.control.now c.args.held.now (g.S.Store.content c.args.store.now) w.moves c.system_has_numbers.ensures (state ∙ c.in-Erroneous.is) in
     record { program = w.program; texts = w.texts; s = w.s; t = w.t; addresses = w.addresses; moves = moves }
 
 pub returns-in-Erroneous-clause-begun : goal.returns-in-Erroneous-clause-begun
 returns-in-Erroneous-clause-begun g c =
     on_ok_weaker
-    {P = Moved c.args.classes.now.world (Raising 25) (kept c.args.frames.now c.args.control.now c.args.held.now (g.S.Store.content c.args.store.now))
+    {P = Moved c.args.program.now.classes.now.world (Raising 25) (kept c.args.frames.now c.args.control.now c.args.held.now (g.S.Store.content c.args.store.now))
     (kept c.raise.new.frames c.raise.new.control c.raise.new.held (g.S.Store.content c.raise.new.store))}
     c.raise.result
     (λ moved program texts s t addresses h.
     let low = slice_get_within c.args.control.now.states.items c.args.class _
-    (kept_now c.args.classes.now.world c.args.class c.args.verified.now program texts s t addresses c.args.frames.now c.args.control.now
+    (kept_now c.args.program.now.classes.now.world c.args.class c.args.program.now.verified.now program texts s t addresses c.args.frames.now c.args.control.now
     c.args.held.now (g.S.Store.content c.args.store.now) h) in
     let there = slice_get-get_or c.args.control.now.states.items c.args.class c.index.result.now low ∙ ap Some (sym c.index.ensures) in
-    let state = is_state c.args.classes.now.world c.args.class c.args.verified.now program texts s t addresses c.args.frames.now c.args.control.now
+    let state = is_state c.args.program.now.classes.now.world c.args.class c.args.program.now.verified.now program texts s t addresses c.args.frames.now c.args.control.now
     c.args.held.now (g.S.Store.content c.args.store.now) h c.index.result.now there in
-    let moves = raises_erroneous c.args.classes.now.world c.args.class c.args.verified.now program texts s t addresses c.args.frames.now
+    let moves = raises_erroneous c.args.program.now.classes.now.world c.args.class c.args.program.now.verified.now program texts s t addresses c.args.frames.now
     c.args.control.now c.args.held.now (g.S.Store.content c.args.store.now) h c.system_has_numbers.ensures (state ∙ c.in-Erroneous.is) in
     moved program texts s t addresses moves)
     c.raise.ensures.raised
 
-pub bounds-verified-class : goal.bounds-verified-class
-bounds-verified-class g c =
+pub bounds-program-class : goal.bounds-program-class
+bounds-program-class g c =
     let w = c.requires.can in
-    slice_get_within c.args.verified.now c.args.class _ (w.moves.does.are c.args.class w.moves.does.l w.moves.does.at)
+    slice_get_within c.args.program.now.verified.now c.args.class _ (w.moves.does.are c.args.class w.moves.does.l w.moves.does.at)
 
-pub raise-requires-then-not-verified-class-clause-can : goal.raise-requires-then-not-verified-class-clause-can
-raise-requires-then-not-verified-class-clause-can g c =
+pub raise-requires-then-not-program-class-clause-can : goal.raise-requires-then-not-program-class-clause-can
+raise-requires-then-not-program-class-clause-can g c =
     let w = c.requires.can in
     let low = slice_get_within c.args.control.now.states.items c.args.class _
-    (kept_now c.args.classes.now.world c.args.class c.args.verified.now w.program w.texts w.s w.t w.addresses c.args.frames.now c.args.control.now
+    (kept_now c.args.program.now.classes.now.world c.args.class c.args.program.now.verified.now w.program w.texts w.s w.t w.addresses c.args.frames.now c.args.control.now
     c.args.held.now (g.S.Store.content c.args.store.now) w.moves) in
     let there = slice_get-get_or c.args.control.now.states.items c.args.class c.index.result.now low ∙ ap Some (sym c.index.ensures) in
-    let state = is_state c.args.classes.now.world c.args.class c.args.verified.now w.program w.texts w.s w.t w.addresses c.args.frames.now
+    let state = is_state c.args.program.now.classes.now.world c.args.class c.args.program.now.verified.now w.program w.texts w.s w.t w.addresses c.args.frames.now
     c.args.control.now c.args.held.now (g.S.Store.content c.args.store.now) w.moves c.index.result.now there in
-    let within = slice_get_within c.args.verified.now c.args.class _ (w.moves.does.are c.args.class w.moves.does.l w.moves.does.at) in
-    let told = verdict c.args.classes.now.world c.args.class c.args.verified.now w.program w.texts w.s w.t w.addresses c.args.frames.now
-    c.args.control.now c.args.held.now (g.S.Store.content c.args.store.now) w.moves (get_or c.args.verified.now c.args.class false)
-    (slice_get-get_or c.args.verified.now c.args.class false within) in
-    let moves = raises_unverified c.args.classes.now.world c.args.class c.args.verified.now w.program w.texts w.s w.t w.addresses c.args.frames.now
+    let within = slice_get_within c.args.program.now.verified.now c.args.class _ (w.moves.does.are c.args.class w.moves.does.l w.moves.does.at) in
+    let told = verdict c.args.program.now.classes.now.world c.args.class c.args.program.now.verified.now w.program w.texts w.s w.t w.addresses c.args.frames.now
+    c.args.control.now c.args.held.now (g.S.Store.content c.args.store.now) w.moves (get_or c.args.program.now.verified.now c.args.class false)
+    (slice_get-get_or c.args.program.now.verified.now c.args.class false within) in
+    let moves = raises_unverified c.args.program.now.classes.now.world c.args.class c.args.program.now.verified.now w.program w.texts w.s w.t w.addresses c.args.frames.now
     c.args.control.now c.args.held.now (g.S.Store.content c.args.store.now) w.moves c.system_has_numbers.ensures (state ∙ c.in-Untouched.is)
-    (told ∙ search c.if-not-verified-class.true) in
+    (told ∙ search c.if-not-program-class.true) in
     record { program = w.program; texts = w.texts; s = w.s; t = w.t; addresses = w.addresses; moves = moves }
 
-pub returns-then-not-verified-class-clause-begun : goal.returns-then-not-verified-class-clause-begun
-returns-then-not-verified-class-clause-begun g c =
+pub returns-then-not-program-class-clause-begun : goal.returns-then-not-program-class-clause-begun
+returns-then-not-program-class-clause-begun g c =
     on_ok_weaker
-    {P = Moved c.args.classes.now.world (Raising 26) (kept c.args.frames.now c.args.control.now c.args.held.now (g.S.Store.content c.args.store.now))
-    (kept c.raise-then-not-verified-class.new.frames c.raise-then-not-verified-class.new.control c.raise-then-not-verified-class.new.held
-    (g.S.Store.content c.raise-then-not-verified-class.new.store))}
-    c.raise-then-not-verified-class.result
+    {P = Moved c.args.program.now.classes.now.world (Raising 26) (kept c.args.frames.now c.args.control.now c.args.held.now (g.S.Store.content c.args.store.now))
+    (kept c.raise-then-not-program-class.new.frames c.raise-then-not-program-class.new.control c.raise-then-not-program-class.new.held
+    (g.S.Store.content c.raise-then-not-program-class.new.store))}
+    c.raise-then-not-program-class.result
     (λ moved program texts s t addresses h.
     let low = slice_get_within c.args.control.now.states.items c.args.class _
-    (kept_now c.args.classes.now.world c.args.class c.args.verified.now program texts s t addresses c.args.frames.now c.args.control.now
+    (kept_now c.args.program.now.classes.now.world c.args.class c.args.program.now.verified.now program texts s t addresses c.args.frames.now c.args.control.now
     c.args.held.now (g.S.Store.content c.args.store.now) h) in
     let there = slice_get-get_or c.args.control.now.states.items c.args.class c.index.result.now low ∙ ap Some (sym c.index.ensures) in
-    let state = is_state c.args.classes.now.world c.args.class c.args.verified.now program texts s t addresses c.args.frames.now c.args.control.now
+    let state = is_state c.args.program.now.classes.now.world c.args.class c.args.program.now.verified.now program texts s t addresses c.args.frames.now c.args.control.now
     c.args.held.now (g.S.Store.content c.args.store.now) h c.index.result.now there in
-    let within = slice_get_within c.args.verified.now c.args.class _ (h.does.are c.args.class h.does.l h.does.at) in
-    let told = verdict c.args.classes.now.world c.args.class c.args.verified.now program texts s t addresses c.args.frames.now c.args.control.now
-    c.args.held.now (g.S.Store.content c.args.store.now) h (get_or c.args.verified.now c.args.class false)
-    (slice_get-get_or c.args.verified.now c.args.class false within) in
-    let moves = raises_unverified c.args.classes.now.world c.args.class c.args.verified.now program texts s t addresses c.args.frames.now
+    let within = slice_get_within c.args.program.now.verified.now c.args.class _ (h.does.are c.args.class h.does.l h.does.at) in
+    let told = verdict c.args.program.now.classes.now.world c.args.class c.args.program.now.verified.now program texts s t addresses c.args.frames.now c.args.control.now
+    c.args.held.now (g.S.Store.content c.args.store.now) h (get_or c.args.program.now.verified.now c.args.class false)
+    (slice_get-get_or c.args.program.now.verified.now c.args.class false within) in
+    let moves = raises_unverified c.args.program.now.classes.now.world c.args.class c.args.program.now.verified.now program texts s t addresses c.args.frames.now
     c.args.control.now c.args.held.now (g.S.Store.content c.args.store.now) h c.system_has_numbers.ensures (state ∙ c.in-Untouched.is)
-    (told ∙ search c.if-not-verified-class.true) in
+    (told ∙ search c.if-not-program-class.true) in
     moved program texts s t addresses moves)
-    c.raise-then-not-verified-class.ensures.raised
+    c.raise-then-not-program-class.ensures.raised
 
 pub raise-requires-then-frames-lt4-clause-can : goal.raise-requires-then-frames-lt4-clause-can
 raise-requires-then-frames-lt4-clause-can g c =
     let w = c.requires.can in
     let low = slice_get_within c.args.control.now.states.items c.args.class _
-    (kept_now c.args.classes.now.world c.args.class c.args.verified.now w.program w.texts w.s w.t w.addresses c.args.frames.now c.args.control.now
+    (kept_now c.args.program.now.classes.now.world c.args.class c.args.program.now.verified.now w.program w.texts w.s w.t w.addresses c.args.frames.now c.args.control.now
     c.args.held.now (g.S.Store.content c.args.store.now) w.moves) in
     let there = slice_get-get_or c.args.control.now.states.items c.args.class c.index.result.now low ∙ ap Some (sym c.index.ensures) in
-    let state = is_state c.args.classes.now.world c.args.class c.args.verified.now w.program w.texts w.s w.t w.addresses c.args.frames.now
+    let state = is_state c.args.program.now.classes.now.world c.args.class c.args.program.now.verified.now w.program w.texts w.s w.t w.addresses c.args.frames.now
     c.args.control.now c.args.held.now (g.S.Store.content c.args.store.now) w.moves c.index.result.now there in
-    let within = slice_get_within c.args.verified.now c.args.class _ (w.moves.does.are c.args.class w.moves.does.l w.moves.does.at) in
-    let told = verdict c.args.classes.now.world c.args.class c.args.verified.now w.program w.texts w.s w.t w.addresses c.args.frames.now
-    c.args.control.now c.args.held.now (g.S.Store.content c.args.store.now) w.moves (get_or c.args.verified.now c.args.class false)
-    (slice_get-get_or c.args.verified.now c.args.class false within) in
+    let within = slice_get_within c.args.program.now.verified.now c.args.class _ (w.moves.does.are c.args.class w.moves.does.l w.moves.does.at) in
+    let told = verdict c.args.program.now.classes.now.world c.args.class c.args.program.now.verified.now w.program w.texts w.s w.t w.addresses c.args.frames.now
+    c.args.control.now c.args.held.now (g.S.Store.content c.args.store.now) w.moves (get_or c.args.program.now.verified.now c.args.class false)
+    (slice_get-get_or c.args.program.now.verified.now c.args.class false within) in
     let left = w.moves.stands.frames.left_is in
     let lack = c.if-frames-lt4.true in
-    let moves = raises_overflow c.args.classes.now.world c.args.class c.args.verified.now w.program w.texts w.s w.t w.addresses c.args.frames.now
+    let moves = raises_overflow c.args.program.now.classes.now.world c.args.class c.args.program.now.verified.now w.program w.texts w.s w.t w.addresses c.args.frames.now
     c.args.control.now c.args.held.now (g.S.Store.content c.args.store.now) w.moves c.system_has_numbers.ensures (state ∙ c.in-Untouched.is)
-    (told ∙ search c.if-not-verified-class.false) (omega (arith, left, lack)) in
+    (told ∙ search c.if-not-program-class.false) (omega (arith, left, lack)) in
     record { program = w.program; texts = w.texts; s = w.s; t = w.t; addresses = w.addresses; moves = moves }
 
 pub returns-then-frames-lt4-clause-begun : goal.returns-then-frames-lt4-clause-begun
 returns-then-frames-lt4-clause-begun g c =
     on_ok_weaker
-    {P = Moved c.args.classes.now.world (Raising 21) (kept c.args.frames.now c.args.control.now c.args.held.now (g.S.Store.content c.args.store.now))
+    {P = Moved c.args.program.now.classes.now.world (Raising 21) (kept c.args.frames.now c.args.control.now c.args.held.now (g.S.Store.content c.args.store.now))
     (kept c.raise-then-frames-lt4.new.frames c.raise-then-frames-lt4.new.control c.raise-then-frames-lt4.new.held
     (g.S.Store.content c.raise-then-frames-lt4.new.store))}
     c.raise-then-frames-lt4.result
     (λ moved program texts s t addresses h.
     let low = slice_get_within c.args.control.now.states.items c.args.class _
-    (kept_now c.args.classes.now.world c.args.class c.args.verified.now program texts s t addresses c.args.frames.now c.args.control.now
+    (kept_now c.args.program.now.classes.now.world c.args.class c.args.program.now.verified.now program texts s t addresses c.args.frames.now c.args.control.now
     c.args.held.now (g.S.Store.content c.args.store.now) h) in
     let there = slice_get-get_or c.args.control.now.states.items c.args.class c.index.result.now low ∙ ap Some (sym c.index.ensures) in
-    let state = is_state c.args.classes.now.world c.args.class c.args.verified.now program texts s t addresses c.args.frames.now c.args.control.now
+    let state = is_state c.args.program.now.classes.now.world c.args.class c.args.program.now.verified.now program texts s t addresses c.args.frames.now c.args.control.now
     c.args.held.now (g.S.Store.content c.args.store.now) h c.index.result.now there in
-    let within = slice_get_within c.args.verified.now c.args.class _ (h.does.are c.args.class h.does.l h.does.at) in
-    let told = verdict c.args.classes.now.world c.args.class c.args.verified.now program texts s t addresses c.args.frames.now c.args.control.now
-    c.args.held.now (g.S.Store.content c.args.store.now) h (get_or c.args.verified.now c.args.class false)
-    (slice_get-get_or c.args.verified.now c.args.class false within) in
+    let within = slice_get_within c.args.program.now.verified.now c.args.class _ (h.does.are c.args.class h.does.l h.does.at) in
+    let told = verdict c.args.program.now.classes.now.world c.args.class c.args.program.now.verified.now program texts s t addresses c.args.frames.now c.args.control.now
+    c.args.held.now (g.S.Store.content c.args.store.now) h (get_or c.args.program.now.verified.now c.args.class false)
+    (slice_get-get_or c.args.program.now.verified.now c.args.class false within) in
     let left = h.stands.frames.left_is in
     let lack = c.if-frames-lt4.true in
-    let moves = raises_overflow c.args.classes.now.world c.args.class c.args.verified.now program texts s t addresses c.args.frames.now
+    let moves = raises_overflow c.args.program.now.classes.now.world c.args.class c.args.program.now.verified.now program texts s t addresses c.args.frames.now
     c.args.control.now c.args.held.now (g.S.Store.content c.args.store.now) h c.system_has_numbers.ensures (state ∙ c.in-Untouched.is)
-    (told ∙ search c.if-not-verified-class.false) (omega (arith, left, lack)) in
+    (told ∙ search c.if-not-program-class.false) (omega (arith, left, lack)) in
     moved program texts s t addresses moves)
     c.raise-then-frames-lt4.ensures.raised
 
@@ -187,22 +187,22 @@ pub mark_begun-requires : goal.mark_begun-requires
 mark_begun-requires g c =
     let w = c.requires.can in
     let low = slice_get_within c.args.control.now.states.items c.args.class _
-    (kept_now c.args.classes.now.world c.args.class c.args.verified.now w.program w.texts w.s w.t w.addresses c.args.frames.now c.args.control.now
+    (kept_now c.args.program.now.classes.now.world c.args.class c.args.program.now.verified.now w.program w.texts w.s w.t w.addresses c.args.frames.now c.args.control.now
     c.args.held.now (g.S.Store.content c.args.store.now) w.moves) in
     subst (λ states. c.args.class < length states) (sym c.deref_mut.ensures.value) low
 
 pub returns-clause-begun : goal.returns-clause-begun
 returns-clause-begun g c = λ program texts s t addresses h.
     let low = slice_get_within c.args.control.now.states.items c.args.class _
-    (kept_now c.args.classes.now.world c.args.class c.args.verified.now program texts s t addresses c.args.frames.now c.args.control.now
+    (kept_now c.args.program.now.classes.now.world c.args.class c.args.program.now.verified.now program texts s t addresses c.args.frames.now c.args.control.now
     c.args.held.now (g.S.Store.content c.args.store.now) h) in
     let there = slice_get-get_or c.args.control.now.states.items c.args.class c.index.result.now low ∙ ap Some (sym c.index.ensures) in
-    let state = is_state c.args.classes.now.world c.args.class c.args.verified.now program texts s t addresses c.args.frames.now c.args.control.now
+    let state = is_state c.args.program.now.classes.now.world c.args.class c.args.program.now.verified.now program texts s t addresses c.args.frames.now c.args.control.now
     c.args.held.now (g.S.Store.content c.args.store.now) h c.index.result.now there in
-    let within = slice_get_within c.args.verified.now c.args.class _ (h.does.are c.args.class h.does.l h.does.at) in
-    let told = verdict c.args.classes.now.world c.args.class c.args.verified.now program texts s t addresses c.args.frames.now c.args.control.now
-    c.args.held.now (g.S.Store.content c.args.store.now) h (get_or c.args.verified.now c.args.class false)
-    (slice_get-get_or c.args.verified.now c.args.class false within) in
+    let within = slice_get_within c.args.program.now.verified.now c.args.class _ (h.does.are c.args.class h.does.l h.does.at) in
+    let told = verdict c.args.program.now.classes.now.world c.args.class c.args.program.now.verified.now program texts s t addresses c.args.frames.now c.args.control.now
+    c.args.held.now (g.S.Store.content c.args.store.now) h (get_or c.args.program.now.verified.now c.args.class false)
+    (slice_get-get_or c.args.program.now.verified.now c.args.class false within) in
     let world_is : c.table-table.result.now ≡ program.world = c.table-table.ensures ∙ sym h.world_is in
     let numbers = subst (λ (v : World). IsNumbered v) world_is c.is_numbered.ensures in
     let own = c.class_at.ensures h.does.l (ap (λ (v : World). slice_get v c.args.class) world_is ∙ h.does.at) in
@@ -220,8 +220,8 @@ returns-clause-begun g c = λ program texts s t addresses h.
     let control_after = record c.args.control.now { states = with_items c.args.control.now.states new } in
     let left = h.stands.frames.left_is in
     let enough = c.if-frames-lt4.false in
-    begins c.args.classes.now.world c.args.class c.args.verified.now program texts s t addresses c.args.frames.now c.args.control.now c.args.held.now
-    (g.S.Store.content c.args.store.now) h after new control_after (state ∙ c.in-Untouched.is) (told ∙ search c.if-not-verified-class.false)
+    begins c.args.program.now.classes.now.world c.args.class c.args.program.now.verified.now program texts s t addresses c.args.frames.now c.args.control.now c.args.held.now
+    (g.S.Store.content c.args.store.now) h after new control_after (state ∙ c.in-Untouched.is) (told ∙ search c.if-not-program-class.false)
     (omega (arith, left, enough)) refl
     c.push_record.ensures.items c.push_record.ensures.capacity refl (omega (arith, enough))
     (subst (λ (xs : List ClassState). AreClassStates program.world ((h.does.l.class.name, Begun) ∷ s.control.states) xs) (sym all) set) refl

@@ -14,7 +14,7 @@ use Rattle.jv_interp_control.proofs.initialization.initialization_step.Goals as 
 pub take_initialization-own-requires : goal.take_initialization-own-requires
 take_initialization-own-requires g c =
     let w = c.requires.can in
-    can_take c.args.classes.now.world c.args.texts.now.names c.args.verified.now w.program w.s w.t w.addresses c.args.frames.now c.args.control.now
+    can_take c.args.program.now.classes.now.world c.args.program.now.texts.now.names c.args.program.now.verified.now w.program w.s w.t w.addresses c.args.frames.now c.args.control.now
     c.args.held.now (g.S.Store.content c.args.store.now) w.moves
 
 pub next_task-requires : goal.next_task-requires
@@ -23,8 +23,8 @@ next_task-requires g c =
     let own = c.take_initialization-own.result in
     let asked : Asking c.table.result.now c.args.linked.now own c.deref.result.now w.program w.moves.does.frame w.s.control.states =
     subst (λ (v : World). Asking v c.args.linked.now own c.deref.result.now w.program w.moves.does.frame w.s.control.states) (sym c.table.ensures)
-    (subst (λ (xs : List ClassState). Asking c.args.classes.now.world c.args.linked.now own xs w.program w.moves.does.frame w.s.control.states) (sym c.deref.ensures.value)
-    (asking c.args.classes.now.world c.args.texts.now.names c.args.verified.now w.program w.s w.t w.addresses c.args.frames.now c.args.control.now
+    (subst (λ (xs : List ClassState). Asking c.args.program.now.classes.now.world c.args.linked.now own xs w.program w.moves.does.frame w.s.control.states) (sym c.deref.ensures.value)
+    (asking c.args.program.now.classes.now.world c.args.program.now.texts.now.names c.args.program.now.verified.now w.program w.s w.t w.addresses c.args.frames.now c.args.control.now
     c.args.held.now (g.S.Store.content c.args.store.now) w.moves c.take_initialization-own.new.frames.records.items
     c.take_initialization-own.result c.take_initialization-own.ensures.items c.args.linked.now c.requires.linked c.requires.few_classes)) in
     record { program = w.program; frame = w.moves.does.frame; known = w.s.control.states; asking = asked }
@@ -35,22 +35,22 @@ finish-requires-clause-can g c =
     let own = c.take_initialization-own.result in
     let asked : Asking c.table.result.now c.args.linked.now own c.deref.result.now w.program w.moves.does.frame w.s.control.states =
     subst (λ (v : World). Asking v c.args.linked.now own c.deref.result.now w.program w.moves.does.frame w.s.control.states) (sym c.table.ensures)
-    (subst (λ (xs : List ClassState). Asking c.args.classes.now.world c.args.linked.now own xs w.program w.moves.does.frame w.s.control.states) (sym c.deref.ensures.value)
-    (asking c.args.classes.now.world c.args.texts.now.names c.args.verified.now w.program w.s w.t w.addresses c.args.frames.now c.args.control.now
+    (subst (λ (xs : List ClassState). Asking c.args.program.now.classes.now.world c.args.linked.now own xs w.program w.moves.does.frame w.s.control.states) (sym c.deref.ensures.value)
+    (asking c.args.program.now.classes.now.world c.args.program.now.texts.now.names c.args.program.now.verified.now w.program w.s w.t w.addresses c.args.frames.now c.args.control.now
     c.args.held.now (g.S.Store.content c.args.store.now) w.moves c.take_initialization-own.new.frames.records.items
     c.take_initialization-own.result c.take_initialization-own.ensures.items c.args.linked.now c.requires.linked c.requires.few_classes)) in
     let none = subst (λ (o : Option Next). IsNext w.program w.moves.does.frame w.s.control.states own.class o) c.in_default.is
     (c.next_task.ensures w.program w.moves.does.frame w.s.control.states asked) in
-    let moves = finishing c.args.classes.now.world c.args.texts.now.names c.args.verified.now w.program w.s w.t w.addresses c.args.frames.now
+    let moves = finishing c.args.program.now.classes.now.world c.args.program.now.texts.now.names c.args.program.now.verified.now w.program w.s w.t w.addresses c.args.frames.now
     c.args.control.now c.args.held.now (g.S.Store.content c.args.store.now) w.moves c.take_initialization-own.new.frames.records.items
     c.take_initialization-own.result c.take_initialization-own.ensures.items c.take_initialization-own.new.frames none
     c.take_initialization-own.ensures.others refl c.take_initialization-own.ensures.capacity in
-    record { program = w.program; texts = c.args.texts.now.names; s = _; t = w.t; addresses = w.addresses; moves = moves }
+    record { program = w.program; texts = c.args.program.now.texts.now.names; s = _; t = w.t; addresses = w.addresses; moves = moves }
 
 pub push_record-requires : goal.push_record-requires
 push_record-requires g c =
     let w = c.requires.can in
-    let room = room_for_it c.args.classes.now.world c.args.texts.now.names c.args.verified.now w.program w.s w.t w.addresses c.args.frames.now
+    let room = room_for_it c.args.program.now.classes.now.world c.args.program.now.texts.now.names c.args.program.now.verified.now w.program w.s w.t w.addresses c.args.frames.now
     c.args.control.now c.args.held.now (g.S.Store.content c.args.store.now) w.moves c.take_initialization-own.new.frames.records.items
     c.take_initialization-own.result c.take_initialization-own.ensures.items in
     let capacity = c.take_initialization-own.ensures.capacity in
@@ -63,7 +63,7 @@ push_record-requires g c =
 pub push_record-requires-2 : goal.push_record-requires-2
 push_record-requires-2 g c =
     let w = c.requires.can in
-    let room = room_for_it c.args.classes.now.world c.args.texts.now.names c.args.verified.now w.program w.s w.t w.addresses c.args.frames.now
+    let room = room_for_it c.args.program.now.classes.now.world c.args.program.now.texts.now.names c.args.program.now.verified.now w.program w.s w.t w.addresses c.args.frames.now
     c.args.control.now c.args.held.now (g.S.Store.content c.args.store.now) w.moves c.take_initialization-own.new.frames.records.items
     c.take_initialization-own.result c.take_initialization-own.ensures.items in
     let capacity = c.take_initialization-own.ensures.capacity in
@@ -76,14 +76,14 @@ do_task-requires-clause-can g c =
     let own = c.take_initialization-own.result in
     let asked : Asking c.table.result.now c.args.linked.now own c.deref.result.now w.program w.moves.does.frame w.s.control.states =
     subst (λ (v : World). Asking v c.args.linked.now own c.deref.result.now w.program w.moves.does.frame w.s.control.states) (sym c.table.ensures)
-    (subst (λ (xs : List ClassState). Asking c.args.classes.now.world c.args.linked.now own xs w.program w.moves.does.frame w.s.control.states) (sym c.deref.ensures.value)
-    (asking c.args.classes.now.world c.args.texts.now.names c.args.verified.now w.program w.s w.t w.addresses c.args.frames.now c.args.control.now
+    (subst (λ (xs : List ClassState). Asking c.args.program.now.classes.now.world c.args.linked.now own xs w.program w.moves.does.frame w.s.control.states) (sym c.deref.ensures.value)
+    (asking c.args.program.now.classes.now.world c.args.program.now.texts.now.names c.args.program.now.verified.now w.program w.s w.t w.addresses c.args.frames.now c.args.control.now
     c.args.held.now (g.S.Store.content c.args.store.now) w.moves c.take_initialization-own.new.frames.records.items
     c.take_initialization-own.result c.take_initialization-own.ensures.items c.args.linked.now c.requires.linked c.requires.few_classes)) in
     let is = subst (λ (o : Option Next). IsNext w.program w.moves.does.frame w.s.control.states own.class o) c.in-Some.is (c.next_task.ensures w.program w.moves.does.frame w.s.control.states asked) in
     let after = record c.take_initialization-own.new.frames { records = c.push_record-2.new.records } in
     let moves =
-    tasked c.args.classes.now.world c.args.texts.now.names c.args.verified.now w.program w.s w.t w.addresses c.args.frames.now c.args.control.now
+    tasked c.args.program.now.classes.now.world c.args.program.now.texts.now.names c.args.program.now.verified.now w.program w.s w.t w.addresses c.args.frames.now c.args.control.now
     c.args.held.now (g.S.Store.content c.args.store.now) w.moves c.take_initialization-own.new.frames.records.items
     c.take_initialization-own.result c.take_initialization-own.ensures.items c.in-Some.next.task c.in-Some.next.done is.0 after is.1 is.2
     (ap (λ (f : Frames). record f { records = c.push_record-2.new.records }) c.take_initialization-own.ensures.others) c.push_record-2.ensures.items
@@ -95,16 +95,16 @@ returns-in-Ok-clause-done g c = λ program s t addresses h.
     let own = c.take_initialization-own.result in
     let asked : Asking c.table.result.now c.args.linked.now own c.deref.result.now program h.does.frame s.control.states =
     subst (λ (v : World). Asking v c.args.linked.now own c.deref.result.now program h.does.frame s.control.states) (sym c.table.ensures)
-    (subst (λ (xs : List ClassState). Asking c.args.classes.now.world c.args.linked.now own xs program h.does.frame s.control.states) (sym c.deref.ensures.value)
-    (asking c.args.classes.now.world c.args.texts.now.names c.args.verified.now program s t addresses c.args.frames.now c.args.control.now
+    (subst (λ (xs : List ClassState). Asking c.args.program.now.classes.now.world c.args.linked.now own xs program h.does.frame s.control.states) (sym c.deref.ensures.value)
+    (asking c.args.program.now.classes.now.world c.args.program.now.texts.now.names c.args.program.now.verified.now program s t addresses c.args.frames.now c.args.control.now
     c.args.held.now (g.S.Store.content c.args.store.now) h c.take_initialization-own.new.frames.records.items c.take_initialization-own.result
     c.take_initialization-own.ensures.items c.args.linked.now c.requires.linked c.requires.few_classes)) in
     let none = subst (λ (o : Option Next). IsNext program h.does.frame s.control.states own.class o) c.in_default.is (c.next_task.ensures program h.does.frame s.control.states asked) in
-    let moves = finishing c.args.classes.now.world c.args.texts.now.names c.args.verified.now program s t addresses c.args.frames.now
+    let moves = finishing c.args.program.now.classes.now.world c.args.program.now.texts.now.names c.args.program.now.verified.now program s t addresses c.args.frames.now
     c.args.control.now c.args.held.now (g.S.Store.content c.args.store.now) h c.take_initialization-own.new.frames.records.items
     c.take_initialization-own.result c.take_initialization-own.ensures.items c.take_initialization-own.new.frames none
     c.take_initialization-own.ensures.others refl c.take_initialization-own.ensures.capacity in
-    let r = (c.in-Ok.ensures {u = tt}).finished program c.args.texts.now.names _ t addresses moves in
+    let r = (c.in-Ok.ensures {u = tt}).finished program c.args.program.now.texts.now.names _ t addresses moves in
     record { more = r.more; stands = r.stands; grows = r.grows }
 
 pub returns-in-Ok-do_task-clause-done : goal.returns-in-Ok-do_task-clause-done
@@ -112,14 +112,14 @@ returns-in-Ok-do_task-clause-done g c = λ program s t addresses h.
     let own = c.take_initialization-own.result in
     let asked : Asking c.table.result.now c.args.linked.now own c.deref.result.now program h.does.frame s.control.states =
     subst (λ (v : World). Asking v c.args.linked.now own c.deref.result.now program h.does.frame s.control.states) (sym c.table.ensures)
-    (subst (λ (xs : List ClassState). Asking c.args.classes.now.world c.args.linked.now own xs program h.does.frame s.control.states) (sym c.deref.ensures.value)
-    (asking c.args.classes.now.world c.args.texts.now.names c.args.verified.now program s t addresses c.args.frames.now c.args.control.now
+    (subst (λ (xs : List ClassState). Asking c.args.program.now.classes.now.world c.args.linked.now own xs program h.does.frame s.control.states) (sym c.deref.ensures.value)
+    (asking c.args.program.now.classes.now.world c.args.program.now.texts.now.names c.args.program.now.verified.now program s t addresses c.args.frames.now c.args.control.now
     c.args.held.now (g.S.Store.content c.args.store.now) h c.take_initialization-own.new.frames.records.items c.take_initialization-own.result
     c.take_initialization-own.ensures.items c.args.linked.now c.requires.linked c.requires.few_classes)) in
     let is = subst (λ (o : Option Next). IsNext program h.does.frame s.control.states own.class o) c.in-Some.is (c.next_task.ensures program h.does.frame s.control.states asked) in
     let after = record c.take_initialization-own.new.frames { records = c.push_record-2.new.records } in
     let moves =
-    tasked c.args.classes.now.world c.args.texts.now.names c.args.verified.now program s t addresses c.args.frames.now c.args.control.now
+    tasked c.args.program.now.classes.now.world c.args.program.now.texts.now.names c.args.program.now.verified.now program s t addresses c.args.frames.now c.args.control.now
     c.args.held.now (g.S.Store.content c.args.store.now) h c.take_initialization-own.new.frames.records.items c.take_initialization-own.result
     c.take_initialization-own.ensures.items c.in-Some.next.task c.in-Some.next.done is.0 after is.1 is.2
     (ap (λ (f : Frames). record f { records = c.push_record-2.new.records }) c.take_initialization-own.ensures.others) c.push_record-2.ensures.items
