@@ -1,16 +1,13 @@
 -- A class is another one or below it, by their numbers (JVMS 6.5).
-use Rattle.std.proofs.Common.{◌≡◌, ℕ, zero, suc, Bool, true, false, cond, ◌||◌, nat_eq, List, [], ◌∷◌, length, Option, Some, None, slice_get, refl, sym, ap, ◌∙◌, arith}
-use Rattle.std.specs.List.{filter_map, flat_map, list_any, cons_option}
+use Rattle.std.proofs.Common.{◌≡◌, ℕ, Bool, true, false, cond, ◌||◌, nat_eq, List, [], ◌∷◌, Option, Some, slice_get, refl, sym, ap, ◌∙◌, arith}
 use Rattle.std.specs.Str.{bytes_eq}
 use Rattle.std.specs.Cmp.Lexicographic.{nat_list_eq_equiv}
-use Rattle.std.proofs.lemmas.List.Folds.{list_any-append}
 use Rattle.std.proofs.lemmas.Bool.{eqb-true}
-use Rattle.jv_class.specs.Class.{Class}
 use Rattle.jv_meaning_world.specs.World.{Loaded, World, class_named}
-use Rattle.jv_meaning_world.specs.Above.{super_names, supers_in, above_within, is_above}
-use Rattle.jv_meaning_world.specs.Numbers.{IsNumbered, number_named}
+use Rattle.jv_meaning_world.specs.Above.{is_above}
+use Rattle.jv_meaning_world.specs.Numbers.{IsNumbered}
 use Rattle.jv_meaning_world.proofs.Up.{same_name}
-use Rattle.jv_classes.proofs.Numbers.{number_at, numbered}
+use Rattle.jv_classes.proofs.Numbers.{number_at}
 use Rattle.jv_meaning_machine.specs.Objects.{is_below, is_at_or_below}
 use Rattle.jv_interp_control.proofs.StatesSet.{other_name}
 
