@@ -10,6 +10,7 @@ pub mod FramesAtInstructions
 pub mod FramesSpelled
 pub mod Handling
 pub mod MapFrames
+pub mod NamedTypes
 pub mod Noting
 pub mod ObjectsBelow
 pub mod Opened
@@ -22,4 +23,5 @@ pub mod Settling
 pub mod Shared
 pub mod Switching
 pub mod Tests
+pub mod Unbroken
 pub mod Walking

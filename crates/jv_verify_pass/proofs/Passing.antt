@@ -8,7 +8,7 @@ use Rattle.jv_meaning_typing.specs.declared.verdict.VerifyRule.{VerifyRule}
 use Rattle.jv_meaning_typing.specs.declared.verdict.VerifyRule.TheVariants as rules
 use Rattle.jv_meaning_typing.specs.Environment.{Environment, IsEnvironment, instruction_at, offset_behind}
 use Rattle.jv_meaning_typing.specs.Judgement.{BreaksFirst, GoesOnBehind}
-use Rattle.jv_meaning_typing.proofs.Starts.{instruction_at_is, start_within}
+use Rattle.jv_meaning_typing.proofs.Starts.{instruction_at_is}
 use Rattle.jv_verify_pass.specs.Found.{IsBroken, IsTyped}
 use Rattle.jv_verify_pass.specs.Inside.Walk.{Reaches, Progress, IsStep, when_falls}
 use Rattle.jv_verify_pass.proofs.Walking.{end_broken, further, whole}
@@ -17,6 +17,14 @@ use Rattle.jv_verify_pass.proofs.Walking.{end_broken, further, whole}
 pub start_here : (code bytes : List ℕ) (pc size : ℕ) → bytes ≡ code → size ≡ length bytes → pc < size → IsStartOrEnd code pc → IsStart bytes pc
 start_here code bytes pc size e l lt (inl start) = subst (λ (b : List ℕ). IsStart b pc) (sym e) start
 start_here code bytes pc size e l lt (inr end) = absurd (omega (arith, l, lt, end, ap length e))
+
+-- an instruction that starts before an offset, at which another one starts or the code ends, is behind before it or there
+pub no_further : StartsApart → (code bytes : List ℕ) (pc next end : ℕ) (insn : Instruction) → bytes ≡ code → IsAt bytes pc insn → next ≡ offset_behind pc insn
+    → next ≤ length bytes → pc < end → IsStartOrEnd code end → next ≤ end
+no_further apart code bytes pc next end insn e at n within lt (inl start) =
+    let behind : offset_behind pc insn ≤ end = apart code pc end insn start.0 (subst (λ (b : List ℕ). IsAt b pc insn) e at) start.1 (omega (arith, lt)) in
+    omega (arith, n, behind)
+no_further apart code bytes pc next end insn e at n within lt (inr last) = omega (arith, within, last, ap length e)
 
 -- the first rule that is broken at an instruction is none on the code's end
 pub broken : (env : Environment) (maps : List PlacedFrame) (pc : ℕ) (rule : VerifyRule) → BreaksFirst env maps pc rule → IsBroken env maps pc rule
@@ -61,10 +69,6 @@ module _ (stands : StandsInList) (apart : StartsApart) (env : Environment) (is :
       subst (λ (k : ℕ). Progress env maps k (when_falls falls left)) (sym n)
       (subst (λ (c : Bool). Progress env maps (offset_behind pc insn) (when_falls c left)) (sym b) there)
 
-  pub is_whole : (code bytes : List ℕ) (size pc : ℕ) (falling : Option Frame) → bytes ≡ code → env.code.code ≡ code → size ≡ length bytes → size ≤ pc
-      → IsStartOrEnd code pc → Progress env maps pc falling → IsTyped env maps
-  is_whole code bytes size pc falling e f l le (inl start) p =
-      let lt : pc < length env.code.code = start_within env pc start.0 is (at_is code bytes pc start.0 e f (subst (λ (b : List ℕ). IsAt b pc start.0) (sym e) start.1)) in
-      absurd (omega (arith, lt, le, length_is code bytes size e f l))
-  is_whole code bytes size pc falling e f l le (inr end) p =
-      whole stands apart env is maps pc falling (end ∙ ap length (sym f)) p
+  pub is_whole : (code bytes : List ℕ) (size : ℕ) (falling : Option Frame) → bytes ≡ code → env.code.code ≡ code → size ≡ length bytes
+      → Progress env maps size falling → IsTyped env maps
+  is_whole code bytes size falling e f l p = whole stands apart env is maps size falling (length_is code bytes size e f l) p

@@ -19,7 +19,8 @@ use Rattle.jv_meaning_typing.proofs.Starts.{instruction_at_is, last_there}
 use Rattle.jv_meaning_typing.proofs.Agreement.{fall}
 use Rattle.jv_meaning_typing.proofs.Falling.{one_falls, grows, local}
 use Rattle.jv_verify_pass.specs.Found.{IsTyped}
-use Rattle.jv_verify_pass.specs.Inside.Walk.{Falls, Reaches, Stands, Progress, merged, when_falls, all_hold}
+use Rattle.jv_verify_pass.specs.Before.{Falls}
+use Rattle.jv_verify_pass.specs.Inside.Walk.{Reaches, Stands, Progress, merged, when_falls, all_hold}
 
 -- ---- an assignment with another frame at one offset
 

@@ -1,3 +1,4 @@
+pub mod Before
 pub mod Found
 pub mod Inside
 pub mod Pass

@@ -2,11 +2,13 @@
 //! code, then a frame that goes from instruction to instruction, against the map's. A room of `jv_verify`.
 #![tactic(auto)]
 
+mod before;
 mod catching;
 mod changes;
 mod fault;
 mod maps;
 mod merging;
+mod named;
 mod objects;
 mod opening;
 mod pass;
@@ -18,8 +20,10 @@ mod step;
 mod targets;
 mod walk;
 
+pub use before::{FramesBefore, frames_before};
 pub use catching::handlers_hold;
 pub use fault::CodeFault;
 pub use maps::read_map;
+pub use named::{NamedFrame, NamedType};
 pub use pass::Pass;
 pub use walk::{FrameRoom, check_code};

@@ -1,11 +1,13 @@
 //! The pass over a method's code.
 
-ghost use Rattle.std.specs.Prelude.{IfOk};
+ghost use Rattle.std.specs.Prelude.{◌≡◌, ◌≤◌, IfOk, length};
+ghost use Rattle.jv_code.specs.Places.{IsStartOrEnd};
 ghost use Rattle.jv_meaning_typing.specs.Environment.{Environment};
-ghost use Rattle.jv_verify_pass.specs.Pass.{IsOfPass, maps_of};
+ghost use Rattle.jv_verify_types.specs.Numbered.{frame_of};
+ghost use Rattle.jv_verify_pass.specs.Pass.{IsOfPass, maps_of, names_in};
 ghost use Rattle.jv_verify_pass.specs.Found.{IsFound};
 ghost use Rattle.jv_verify_pass.specs.Inside.Seen.{IsSeen};
-ghost use Rattle.jv_verify_pass.specs.Inside.Walk.{IsFoundFrom};
+ghost use Rattle.jv_verify_pass.specs.Inside.Walk.{HasLocals, IsWalked, IsWalkedFrom};
 
 use crate::fault::CodeFault;
 use crate::pass::Pass;
@@ -17,16 +19,29 @@ use jv_meaning_typing::VerifyRule;
 use jv_verify_frame::TypeFrame;
 use std::alloc::{AllocError, Global};
 
-/// Goes over all instructions from the first on, before which the frame stands.
+/// How far a walk over the instructions came.
+#[derive(Clone, Copy)]
+pub(crate) enum Walked {
+    /// To the first rule that is broken.
+    Broken(CodeFault),
+    /// To its end, into which what is left falls, or doesn't.
+    Reached(bool),
+}
+
+/// Goes over the instructions from the first on, before which the frame stands, up to an offset.
 fn walk(
     alloc: Global,
     pass: &Pass<'_, '_, '_, '_, '_>,
     seen: &mut Seen,
     frame: &mut TypeFrame,
-) -> Result<Option<CodeFault>, AllocError>
+    end: u32,
+) -> Result<Walked, AllocError>
     requires seen { IsSeen pass.now seen.old 0 frame.old }
     requires method { (env : Environment) × IsOfPass pass.now env }
-    ensures { IsFoundFrom pass.now frame.old result }
+    requires end { IsStartOrEnd pass.now.context.code end }
+    requires within { end ≤ length pass.now.context.code }
+    ensures found { IsWalkedFrom pass.now frame.old end frame.new result }
+    ensures locals { IfOk result (HasLocals pass.now.max_locals frame.new) }
 {
     stands_in_list();
     starts_apart();
@@ -34,21 +49,43 @@ fn walk(
     let size = code.size();
     let mut falls = true;
     let mut offset = 0;
-    while offset < size {
+    while offset < end {
         let (insn, next) = code.insn_at(offset);
         if let Some(rule) = step(alloc, pass, seen, frame, falls, offset, &insn)? {
-            return Ok(Some(CodeFault { offset, rule }));
+            return Ok(Walked::Broken(CodeFault { offset, rule }));
         }
         falls = falls_through(&insn);
         if falls && next == size {
-            return Ok(Some(CodeFault {
+            return Ok(Walked::Broken(CodeFault {
                 offset,
                 rule: VerifyRule::EndOfCode,
             }));
         }
         offset = next;
     }
-    Ok(None)
+    Ok(Walked::Reached(falls))
+}
+
+/// Goes over the instructions of a method up to an offset, in a frame that is made anew.
+pub(crate) fn walk_to(
+    alloc: Global,
+    frame: &mut TypeFrame,
+    pass: &Pass<'_, '_, '_, '_, '_>,
+    end: u32,
+) -> Result<Walked, AllocError>
+    requires method { (env : Environment) × IsOfPass pass.now env }
+    requires end { IsStartOrEnd pass.now.context.code end }
+    requires within { end ≤ length pass.now.context.code }
+    ensures found { (env : Environment) → IsOfPass pass.now env
+        → IfOk result (IsWalked env (maps_of pass.now) end (frame_of (names_in pass.now) frame.new)) }
+    ensures locals { IfOk result (HasLocals pass.now.max_locals frame.new) }
+{
+    stands_in_list();
+    starts_apart();
+    frame.renew(pass.max_locals)?;
+    set_to_initial(frame, pass.initial, pass.words);
+    let mut seen = Seen::new(alloc, pass)?;
+    walk(alloc, pass, &mut seen, frame, end)
 }
 
 /// Frames of one method after another, with the local variables of the largest: memory for these is taken once.
@@ -74,23 +111,6 @@ impl FrameRoom {
     }
 }
 
-/// Checks the code of a method in a frame that is made anew.
-fn check_in(
-    alloc: Global,
-    frame: &mut TypeFrame,
-    pass: &Pass<'_, '_, '_, '_, '_>,
-) -> Result<Option<CodeFault>, AllocError>
-    requires { (env : Environment) × IsOfPass pass.now env }
-    ensures { (env : Environment) → IsOfPass pass.now env → IfOk result (IsFound env (maps_of pass.now)) }
-{
-    stands_in_list();
-    starts_apart();
-    frame.renew(pass.max_locals)?;
-    set_to_initial(frame, pass.initial, pass.words);
-    let mut seen = Seen::new(alloc, pass)?;
-    walk(alloc, pass, &mut seen, frame)
-}
-
 /// Checks the code of a method whose handlers and stack map keep their rules: the first rule that is broken at the least
 /// offset, if one is. Its frames stand in the room.
 ///
@@ -105,5 +125,11 @@ pub fn check_code(
     requires { (env : Environment) × IsOfPass pass.now env }
     ensures { (env : Environment) → IsOfPass pass.now env → IfOk result (IsFound env (maps_of pass.now)) }
 {
-    check_in(alloc, &mut room.frame, pass)
+    stands_in_list();
+    starts_apart();
+    let size = pass.context.code().size();
+    match walk_to(alloc, &mut room.frame, pass, size)? {
+        Walked::Broken(fault) => Ok(Some(fault)),
+        Walked::Reached(_) => Ok(None),
+    }
 }

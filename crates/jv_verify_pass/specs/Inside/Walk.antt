@@ -1,5 +1,5 @@
 -- How far a walk over the code has come, and what a step of it finds.
-use Rattle.std.specs.Prelude.{◌≡◌, ℕ, ℤ, length, IsTrue, Bool, List, ◌∷◌, map, Option, Some, None, if◌then◌else◌, Result, IfOk}
+use Rattle.std.specs.Prelude.{◌≡◌, ◌<◌, ℕ, ℤ, length, IsTrue, Bool, List, ◌∷◌, map, Option, Some, None, if◌then◌else◌, Result, IfOk}
 use Rattle.std.specs.List.{list_all}
 use Rattle.jv_code.specs.Insns.{Instruction}
 use Rattle.jv_code.specs.Switches.{pair_distance, pairs_in}
@@ -10,18 +10,15 @@ use Rattle.jv_meaning_world.specs.World.{World}
 use Rattle.jv_meaning_world.specs.FrameFlow.{frame_flows}
 use Rattle.jv_meaning_typing.specs.declared.verdict.VerifyRule.{VerifyRule}
 use Rattle.jv_meaning_typing.specs.Environment.{Environment, offset_behind}
-use Rattle.jv_meaning_typing.specs.Typing.{Assignment, FallsInto, IsAssignedBy, Merges, IsTypingBelow, frame_at, target_holds, ends_code, last_instruction}
+use Rattle.jv_meaning_typing.specs.Typing.{Assignment, IsAssignedBy, Merges, IsTypingBelow, frame_at, target_holds, ends_code, last_instruction}
 use Rattle.jv_meaning_typing.specs.Judgement.{BreaksFirst}
 use Rattle.jv_verify_types.specs.Numbered.{NumberFrame, frame_of}
 use Rattle.jv_verify_types.specs.Outcomes.{IsFrame}
-use Rattle.jv_verify_pass.specs.declared.fault.CodeFault.{CodeFault}
-use Rattle.jv_verify_pass.specs.Found.{IsFound}
+use Rattle.jv_verify_pass.specs.declared.walk.Walked.{Walked}
+use Rattle.jv_verify_pass.specs.declared.walk.Walked.TheVariants.{Broken, Reached}
+use Rattle.jv_verify_pass.specs.Before.{Falls}
+use Rattle.jv_verify_pass.specs.Found.{IsBroken}
 use Rattle.jv_verify_pass.specs.Pass.{Pass, IsOfPass, maps_of, names_in}
-
--- what falls into an offset: one frame, or none
-abbrev pub Falls : Environment → Assignment → ℕ → Option Frame → Type 0
-Falls env frames pc (Some frame) = FallsInto env frames pc frame
-Falls env frames pc None = (frame : Frame) → FallsInto env frames pc frame → ⊥
 
 -- the instructions below an offset are type safe, and this falls into it
 pub record Reaches (env : Environment) (maps : List PlacedFrame) (pc : ℕ) (falling : Option Frame) : Type 0 where
@@ -81,11 +78,21 @@ IsMerged pass offset falling old new answer =
     → IfOk answer (IsFrame (names_in pass)
     (merged env.world (when_falls falling (frame_of (names_in pass) old)) (frame_at (maps_of pass) offset)) new)
 
--- what a walk finds that begins with a frame at the first instruction
-abbrev pub IsFoundFrom : {E : Type 0} → Pass → NumberFrame → Result (Option CodeFault) E → Type 0
-IsFoundFrom pass frame answer =
-    (env : Environment) → IsOfPass pass env → Reaches env (maps_of pass) 0 (Some (frame_of (names_in pass) frame))
-    → IfOk answer (IsFound env (maps_of pass))
+-- what a walk up to an offset finds: the first rule that is broken below it, or what is left falls into it, or doesn't
+abbrev pub IsWalked : Environment → List PlacedFrame → ℕ → Frame → Walked → Type 0
+IsWalked env maps end left (Broken fault) = (fault.offset < end) × IsBroken env maps fault.offset fault.rule
+IsWalked env maps end left (Reached falls) = Progress env maps end (when_falls falls left)
+
+-- where it begins with a frame at the first instruction
+abbrev pub IsWalkedFrom : {E : Type 0} → Pass → NumberFrame → ℕ → NumberFrame → Result Walked E → Type 0
+IsWalkedFrom pass old end new answer =
+    (env : Environment) → IsOfPass pass env → Reaches env (maps_of pass) 0 (Some (frame_of (names_in pass) old))
+    → IfOk answer (IsWalked env (maps_of pass) end (frame_of (names_in pass) new))
+
+-- as many local variables as the method has are left, where it reaches the offset
+abbrev pub HasLocals : ℕ → NumberFrame → Walked → Type 0
+HasLocals count left (Broken fault) = Unit {0}
+HasLocals count left (Reached falls) = length left.locals ≡ count
 
 -- the distances of the pairs of a lookupswitch
 abbrev pub distances_of : List ℕ → List ℤ

@@ -1,4 +1,4 @@
-use Rattle.std.proofs.Common.{◌-◌, length, Some}
+use Rattle.std.proofs.Common.{◌≤◌, ◌-◌, Some}
 use Rattle.jv_code.specs.Places.{IsStartOrEnd}
 use Rattle.jv_meaning_typing.specs.Environment.{Environment}
 use Rattle.jv_verify_types.specs.Numbered.{frame_of}
@@ -11,8 +11,9 @@ abbrev pub invariant-loop-offset : goal.invariant-loop-offset
 invariant-loop-offset l =
     IsSeen l.pass l.seen l.offset l.frame
     × IsStartOrEnd l.pass.context.code l.offset
+    × (l.offset ≤ l.end)
     × ((env : Environment) → IsOfPass l.pass env → Reaches env (maps_of l.pass) 0 (Some (frame_of (names_in l.pass) l.fn.frame))
     → Progress env (maps_of l.pass) l.offset (when_falls l.falls (frame_of (names_in l.pass) l.frame)))
 
 abbrev pub decreases-loop-offset : goal.decreases-loop-offset
-decreases-loop-offset l = length l.pass.context.code - l.offset
+decreases-loop-offset l = l.end - l.offset

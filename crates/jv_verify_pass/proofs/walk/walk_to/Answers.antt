@@ -9,10 +9,10 @@ use Rattle.jv_verify_pass.specs.Inside.Kept.{IsPass}
 use Rattle.jv_verify_pass.specs.Inside.Walk.{Reaches}
 use Rattle.jv_verify_pass.proofs.Walking.{begins}
 use Rattle.jv_verify_pass.proofs.FlowsInto.{first_is}
-use Rattle.jv_verify_pass.proofs.walk.check_in.Goals as goal
+use Rattle.jv_verify_pass.proofs.walk.walk_to.Goals as goal
 
-pub returns : goal.returns
-returns c = λ env is.
+pub returns-clause-found : goal.returns-clause-found
+returns-clause-found c = λ env is.
     let pass = c.args.pass.now in
     let entries = c.pass.inside.initial.now in
     let count = c.pass.inside.words in
@@ -20,7 +20,7 @@ returns c = λ env is.
     let many : length c.renew.new.self.locals ≡ pass.max_locals =
     ap (λ (f : NumberFrame). length f.locals) c.in_ok-renew.ensures
     ∙ (length-replicate {A = Item} c.pass.inside.max_locals variants.Top ∙ ap (λ (p : Pass). p.max_locals) c.pass.view_is) in
-    c.walk.ensures env is
+    c.walk.ensures.found env is
     (subst (λ (f : Frame). Reaches env (maps_of pass) 0 (Some f)) (first_is pass entries count kept env is c.set_to_initial.new.frame
     (length c.renew.new.self.locals) many c.set_to_initial.ensures.frame)
     (begins c.stands_in_list.ensures c.starts_apart.ensures env is.is (maps_of pass)))

@@ -1,0 +1,7 @@
+use Rattle.std.proofs.Common.{◌≡◌, map, take}
+use Rattle.jv_verify_types.specs.Typed.{typed_all}
+use Rattle.jv_verify_pass.specs.Before.{seen_type}
+use Rattle.jv_verify_pass.proofs.named.named_locals.Given as goal
+
+abbrev pub invariant-loop-index : goal.invariant-loop-index
+invariant-loop-index l = map seen_type l.types.items ≡ take l.index (typed_all l.names.names l.frame.locals)
