@@ -30,8 +30,9 @@ public class BufferedReader extends CharReader {
         return c;
     }
 
+    /** Behind the end of a stream of bytes nothing is ready, also where more has come since: a reader keeps to the end that it met. */
     public boolean ready() throws IOException {
-        return next == NONE ? in.ready() : next >= 0;
+        return next >= 0 || in.ready() && (next == NONE || !(in instanceof InputStreamReader));
     }
 
     public void close() throws IOException {
