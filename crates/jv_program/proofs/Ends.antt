@@ -201,7 +201,7 @@ module _ (disk : Option Disk) (line : List (List ℕ)) (b0 b1 : Option (List ℕ
   check_failed json library names failure asked failed unread =
       inr (inl (record { library = library; names = names; asked = inl (json, asked); failed = failed; unread = unread }))
 
-  pub explain_failed : (options : ExplainOptions) (names : List (List ℕ)) (failure : Failure) → AskFor line (explain options names) → IsNamedFailure disk None names failure
-      → b1 ≡ b0 → IsEarly disk line b0 b1 (Run failure)
-  explain_failed options names failure asked failed unread =
-      inr (inl (record { library = None; names = names; asked = inr (options, asked, refl); failed = failed; unread = unread }))
+  pub explain_failed : (options : ExplainOptions) (library : Option (List ℕ)) (names : List (List ℕ)) (failure : Failure) → AskFor line (explain options library names)
+      → IsNamedFailure disk library names failure → b1 ≡ b0 → IsEarly disk line b0 b1 (Run failure)
+  explain_failed options library names failure asked failed unread =
+      inr (inl (record { library = library; names = names; asked = inr (options, asked); failed = failed; unread = unread }))

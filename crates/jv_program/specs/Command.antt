@@ -40,7 +40,7 @@ IsBegun line =
     ((options : RunOptions) × (library : Option (List ℕ)) × (folders : List (List ℕ)) × AskFor line (run options library folders)
     × AreTaken (settings_of options) folders)
     ⊎ (((json : Bool) × (library : Option (List ℕ)) × (names : List (List ℕ)) × AskFor line (check json library names))
-    ⊎ ((options : ExplainOptions) × (names : List (List ℕ)) × AskFor line (explain options names)))
+    ⊎ ((options : ExplainOptions) × (library : Option (List ℕ)) × (names : List (List ℕ)) × AskFor line (explain options library names)))
 
 -- the words ask to run the guests of folders, and to be told besides how far the run is, or how long the processor took
 abbrev pub AskForCompany : (line : List (List ℕ)) → Type 0
@@ -71,9 +71,10 @@ pub record IsCheckReport (disk : Option Disk) (line : List (List ℕ)) (before a
 -- The words ask to explain the verdicts on class files, and the report is on these. Nothing is read of the input.
 pub record IsExplainReport (disk : Option Disk) (line : List (List ℕ)) (before after : Option (List ℕ)) (outcome : Outcome) : Type 0 where
   pub options : ExplainOptions
+  pub library : Option (List ℕ)
   pub names : List (List ℕ)
-  pub asked : AskFor line (explain options names)
-  pub explained : IsExplainedAs disk options.json options.links names outcome
+  pub asked : AskFor line (explain options library names)
+  pub explained : IsExplainedAs disk options.json options.links library names outcome
   pub unread : after ≡ before
 
 -- the report is what the words ask for
@@ -92,11 +93,11 @@ pub record IsRunFailed (disk : Option Disk) (line : List (List ℕ)) (before aft
   pub asked : AskFor line (run options library folders)
   pub failed : IsRunFailure disk (settings_of options) library folders before after failure
 
--- The words ask to check class files, with the library in a folder where one is named, or, without one, to explain the verdicts on them.
+-- The words ask to check class files, or to explain the verdicts on them, with the library in a folder where one is named.
 abbrev pub AskForVerdicts : (line : List (List ℕ)) → (library : Option (List ℕ)) → (names : List (List ℕ)) → Type 0
 AskForVerdicts line library names =
     ((json : Bool) × AskFor line (check json library names))
-    ⊎ ((options : ExplainOptions) × AskFor line (explain options names) × (library ≡ None))
+    ⊎ ((options : ExplainOptions) × AskFor line (explain options library names))
 
 -- the words ask for verdicts on class files, and this is why there is no report on them
 pub record IsCheckFailed (disk : Option Disk) (line : List (List ℕ)) (before after : Option (List ℕ)) (failure : Failure) : Type 0 where

@@ -120,11 +120,12 @@ fn outcome_for<F: Folders, I: Read, P: Company>(
             names.as_slice(),
             folders,
         )?),
-        Settings::Explain(options, names) => Ok(explain_named(
+        Settings::Explain(options, library, names) => Ok(explain_named(
             alloc,
             state,
             options.json,
             options.links,
+            library,
             names.as_slice(),
             folders,
         )?),

@@ -32,6 +32,13 @@ pub record IsBrokenIn (found : Verified) (name reason : List ℕ) : Type 0 where
   pub named : HoldsAtNumber found.world number (λ l. name ≡ l.class.name)
   pub told : reason ≡ verdict_text verdict
 
+-- it is not accepted, or memory was refused
+abbrev pub IsNotStanding : Verified → Failure → Type 0
+IsNotStanding found (LibraryRefused name reason) = IsBrokenIn found name.items (string_bytes reason)
+IsNotStanding found HostMemory = ⊤
+IsNotStanding found OutOfMemory = ⊤
+IsNotStanding found failure = ⊥
+
 -- it is not accepted beside these files
 abbrev pub IsBrokenBeside : (library files : List (List ℕ)) → (name reason : List ℕ) → Type 0
 IsBrokenBeside library files name reason = (found : Verified) × AreFilesOf library files found × IsBrokenIn found name reason

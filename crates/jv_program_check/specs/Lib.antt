@@ -1,4 +1,3 @@
 pub mod Check
-pub mod Inside
 pub mod Named
 pub mod Text

@@ -4,8 +4,7 @@ ghost use Rattle.std.specs.List.{list_all};
 ghost use Rattle.jv_limits.specs.Bytes.{bytes_of};
 ghost use Rattle.jv_limits.specs.FileLimits.{first_file_refusal};
 ghost use Rattle.jv_verify.specs.Files.{HostStands};
-ghost use Rattle.jv_program_check.specs.Check.{IsChecked, IsCheckFailure, IsHostFailure};
-ghost use Rattle.jv_program_check.specs.Inside.{IsNotStanding};
+ghost use Rattle.jv_program_check.specs.Check.{IsChecked, IsCheckFailure, IsHostFailure, IsNotStanding};
 ghost use Rattle.jv_program_check.specs.Text.{check_report, check_status, is_accepted};
 
 use crate::report::Lines;
@@ -44,7 +43,7 @@ pub fn status_of(verdicts: &[Verdict]) -> u8
 /// # Errors
 ///
 /// `LibraryRefused` with the name of the first that isn't, and its verdict.
-fn stand(alloc: Global, state: RandomState, verified: &Verified<'_>) -> Result<(), Failure>
+pub fn stand(alloc: Global, state: RandomState, verified: &Verified<'_>) -> Result<(), Failure>
     ensures ok { OnOk result (HostStands verified.now) }
     ensures err { IfErr result (IsNotStanding verified.now) }
 {

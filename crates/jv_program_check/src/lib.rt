@@ -5,5 +5,5 @@ mod checking;
 mod named;
 mod report;
 
-pub use checking::{check_files, status_of};
+pub use checking::{check_files, stand, status_of};
 pub use named::{bytes_of_files, bytes_of_texts, check_named, read_classes};

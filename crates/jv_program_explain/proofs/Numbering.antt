@@ -47,25 +47,25 @@ holds_one one other e = cc
 
 -- ---- the file at a place
 
-module _ (contents : List FileContent) (verdicts : List Verdict) (right : AreVerdicts [] contents verdicts) (k : ℕ) (f : FileContent) (v : Verdict)
+module _ (given : List Class) (contents : List FileContent) (verdicts : List Verdict) (right : AreVerdicts given contents verdicts) (k : ℕ) (f : FileContent) (v : Verdict)
     (at : slice_get contents k ≡ Some f) (judged : slice_get verdicts k ≡ Some v) where
   abbrev world : World
-  world = world_of (with_library []) contents
+  world = world_of (with_library given) contents
 
   abbrev number : ℕ
-  number = number_behind (with_library []) (take k contents)
+  number = number_behind (with_library given) (take k contents)
 
-  pub of_file : IsVerdictOfContent world (load_verdict (with_library []) contents k) (Some f) v
-  of_file = subst (λ (o : Option FileContent). IsVerdictOfContent world (load_verdict (with_library []) contents k) o v) at (right.verdict k v judged)
+  pub of_file : IsVerdictOfContent world (load_verdict (with_library given) contents k) (Some f) v
+  of_file = subst (λ (o : Option FileContent). IsVerdictOfContent world (load_verdict (with_library given) contents k) o v) at (right.verdict k v judged)
 
-  why_is : why_of v ≡ load_verdict (with_library []) contents k
-  why_is = known_why world (load_verdict (with_library []) contents k) f v of_file
+  why_is : why_of v ≡ load_verdict (with_library given) contents k
+  why_is = known_why world (load_verdict (with_library given) contents k) f v of_file
 
   stands_there : IsTrue (joins (why_of v)) → (class : Class) × (f ≡ Holds class) × (slice_get world number ≡ Some (loaded false class))
-  stands_there on = stands (with_library []) contents k f at (why_of v) why_is on
+  stands_there on = stands (with_library given) contents k f at (why_of v) why_is on
 
-  pub next_is : number_behind (with_library []) (take (suc k) contents) ≡ next_number number (why_of v)
-  next_is = next_behind (with_library []) contents k f at (why_of v) why_is
+  pub next_is : number_behind (with_library given) (take (suc k) contents) ≡ next_number number (why_of v)
+  next_is = next_behind (with_library given) contents k f at (why_of v) why_is
 
   pub is_within : IsTrue (joins (why_of v)) → number < length world
   is_within on =
@@ -79,14 +79,14 @@ module _ (contents : List FileContent) (verdicts : List Verdict) (right : AreVer
     found : (class : Class) × (f ≡ Holds class) × (slice_get world number ≡ Some (loaded false class))
     found = stands_there (ap (λ (x : Verdict). joins (why_of x)) is_accepted)
 
-    none_wrong : load_verdict (with_library []) contents k ≡ None
+    none_wrong : load_verdict (with_library given) contents k ≡ None
     none_wrong = sym why_is ∙ ap why_of is_accepted
 
     are_typed : AreTyped world (loaded false found.0) found.0.methods
     are_typed =
         subst (λ (w : Option LoadVerdict). IsVerdictBehind world (loaded false found.0) w Accepted) none_wrong
-        (subst (λ (g : FileContent). IsVerdictOfContent world (load_verdict (with_library []) contents k) (Some g) Accepted) found.1
-        (subst (λ (x : Verdict). IsVerdictOfContent world (load_verdict (with_library []) contents k) (Some f) x) is_accepted of_file))
+        (subst (λ (g : FileContent). IsVerdictOfContent world (load_verdict (with_library given) contents k) (Some g) Accepted) found.1
+        (subst (λ (x : Verdict). IsVerdictOfContent world (load_verdict (with_library given) contents k) (Some f) x) is_accepted of_file))
 
     pub typed_there : IsTypedAt world number
     typed_there = record {

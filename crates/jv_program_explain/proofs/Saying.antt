@@ -2,6 +2,7 @@
 use Rattle.std.proofs.Common.{◌≡◌, ℕ, zero, suc, ◌+◌, ◌<◌, Bool, List, [], ◌∷◌, ◌++◌, length, take, min, Option, Some, refl, sym, ap, subst, ◌∙◌, ◌⊎◌, inl, inr, arith}
 use Rattle.std.specs.Prelude.{IsTrue, slice_get}
 use Rattle.std.proofs.lemmas.List.{length-append}
+use Rattle.jv_class.specs.Class.{Class}
 use Rattle.jv_meaning_world.specs.FileContent.{FileContent, AreContents, IsContent}
 use Rattle.jv_meaning_world.specs.Library.{with_library}
 use Rattle.jv_meaning_world.specs.World.{World, world_of}
@@ -57,50 +58,51 @@ nothing [] e zero text at = absurd cc
 nothing [] e (suc k) text at = absurd cc
 nothing (x ∷ xs) e place text at = absurd cc
 
-pub none_yet : (links : Bool) (contents : List FileContent) (verdicts : List Verdict) (number : ℕ) → number ≡ length (with_library []).system → AreExplainedBelow links contents verdicts 0 number []
-none_yet links contents verdicts number e = record {
+pub none_yet : (links : Bool) (given : List Class) (contents : List FileContent) (verdicts : List Verdict) (number : ℕ)
+    → number ≡ length (with_library given).system + length (with_library given).front → AreExplainedBelow links given contents verdicts 0 number []
+none_yet links given contents verdicts number e = record {
   number_is = number_at contents;
   count = refl;
   each = λ place content verdict text at v t. absurd (nothing [] refl place text t);
 }
   where
-    number_at : (contents : List FileContent) → number ≡ number_behind (with_library []) (take 0 contents)
-    number_at [] = omega (arith, e)
-    number_at (f ∷ more) = omega (arith, e)
+    number_at : (contents : List FileContent) → number ≡ number_behind (with_library given) (take 0 contents)
+    number_at [] = e
+    number_at (f ∷ more) = e
 
-module _ (files : List (List ℕ)) (contents : List FileContent) (are : AreContents files contents) (verified : Verified) (found : AreVerified [] contents verified) where
+module _ (files : List (List ℕ)) (given : List Class) (contents : List FileContent) (are : AreContents files contents) (verified : Verified) (found : AreVerified given contents verified) where
   module _ (links : Bool) (k : ℕ) (less : k < length files) (v : Verdict) (judged : slice_get verified.verdicts k ≡ Some v) (number : ℕ)
-      (number_is : number ≡ number_behind (with_library []) (take k contents)) (world : World) (same : world ≡ verified.world) where
+      (number_is : number ≡ number_behind (with_library given) (take k contents)) (world : World) (same : world ≡ verified.world) where
     here : (f : FileContent) × (slice_get contents k ≡ Some f)
     here =
         let many = as_many files contents are in
         there contents k (omega (arith, less, many))
 
-    is_world : world ≡ world_of (with_library []) contents
+    is_world : world ≡ world_of (with_library given) contents
     is_world = same ∙ found.world
 
     pub typed_at : IsTrue (tells_links links v) → IsTypedAt world number
     typed_at on =
         subst (λ (w : World). IsTypedAt w number) (sym is_world)
-        (subst (λ (n : ℕ). IsTypedAt (world_of (with_library []) contents) n) (sym number_is)
-        (typed_there contents verified.verdicts found.verdicts k here.0 v here.1 judged links on))
+        (subst (λ (n : ℕ). IsTypedAt (world_of (with_library given) contents) n) (sym number_is)
+        (typed_there given contents verified.verdicts found.verdicts k here.0 v here.1 judged links on))
 
     pub within_at : IsTrue (joins (why_of v)) → number < length world
     within_at on =
         subst (λ (w : World). number < length w) (sym is_world)
-        (subst (λ (n : ℕ). n < length (world_of (with_library []) contents)) (sym number_is)
-        (is_within contents verified.verdicts found.verdicts k here.0 v here.1 judged on))
+        (subst (λ (n : ℕ). n < length (world_of (with_library given) contents)) (sym number_is)
+        (is_within given contents verified.verdicts found.verdicts k here.0 v here.1 judged on))
 
-    pub one_more : (said : List (List ℕ)) → AreExplainedBelow links contents verified.verdicts k number said → (bytes text : List ℕ) (next : ℕ) → slice_get files k ≡ Some bytes
+    pub one_more : (said : List (List ℕ)) → AreExplainedBelow links given contents verified.verdicts k number said → (bytes text : List ℕ) (next : ℕ) → slice_get files k ≡ Some bytes
         → next ≡ next_number number (why_of v)
         → ((why : Option LoadVerdict) (content : FileContent) → IsContent bytes content → IsVerdictOfContent world why (Some content) v
         → (IsTrue (tells_links links v) → StandsAt world number content) → IsSaid links world content v text)
-        → AreExplainedBelow links contents verified.verdicts (k + 1) next (said ++ text ∷ [])
+        → AreExplainedBelow links given contents verified.verdicts (k + 1) next (said ++ text ∷ [])
     one_more said below bytes text next file next_on says = record {
       number_is =
           next_on
           ∙ (ap (λ (n : ℕ). next_number n (why_of v)) number_is
-          ∙ (sym (next_is contents verified.verdicts found.verdicts k here.0 v here.1 judged) ∙ ap (λ (n : ℕ). number_behind (with_library []) (take n contents)) (sym plus)));
+          ∙ (sym (next_is given contents verified.verdicts found.verdicts k here.0 v here.1 judged) ∙ ap (λ (n : ℕ). number_behind (with_library given) (take n contents)) (sym plus)));
       count = length-append said (text ∷ []) ∙ ap (λ (n : ℕ). n + 1) below.count;
       each = λ place content w t at w_at t_at. by_place place content w t at w_at (pushed said text place t t_at);
     }
@@ -108,18 +110,18 @@ module _ (files : List (List ℕ)) (contents : List FileContent) (are : AreConte
         plus : k + 1 ≡ suc k
         plus = omega arith
 
-        said_here : IsSaid links (world_of (with_library []) contents) here.0 v text
+        said_here : IsSaid links (world_of (with_library given) contents) here.0 v text
         said_here =
             subst (λ (w : World). IsSaid links w here.0 v text) is_world
-            (says (load_verdict (with_library []) contents k) here.0 (content_at files contents are k bytes here.0 file here.1)
-            (subst (λ (w : World). IsVerdictOfContent w (load_verdict (with_library []) contents k) (Some here.0) v) (sym is_world)
-            (of_file contents verified.verdicts found.verdicts k here.0 v here.1 judged))
+            (says (load_verdict (with_library given) contents k) here.0 (content_at files contents are k bytes here.0 file here.1)
+            (subst (λ (w : World). IsVerdictOfContent w (load_verdict (with_library given) contents k) (Some here.0) v) (sym is_world)
+            (of_file given contents verified.verdicts found.verdicts k here.0 v here.1 judged))
             (λ on. subst (λ (w : World). StandsAt w number here.0) (sym is_world)
-            (subst (λ (n : ℕ). StandsAt (world_of (with_library []) contents) n here.0) (sym number_is)
-            (class_there contents verified.verdicts found.verdicts k here.0 v here.1 judged links on))))
+            (subst (λ (n : ℕ). StandsAt (world_of (with_library given) contents) n here.0) (sym number_is)
+            (class_there given contents verified.verdicts found.verdicts k here.0 v here.1 judged links on))))
 
         by_place : (place : ℕ) (content : FileContent) (w : Verdict) (t : List ℕ) → slice_get contents place ≡ Some content → slice_get verified.verdicts place ≡ Some w
-            → (slice_get said place ≡ Some t) ⊎ ((place ≡ length said) × (text ≡ t)) → IsSaid links (world_of (with_library []) contents) content w t
+            → (slice_get said place ≡ Some t) ⊎ ((place ≡ length said) × (text ≡ t)) → IsSaid links (world_of (with_library given) contents) content w t
         by_place place content w t at w_at (inl before) = below.each place content w t at w_at before
         by_place place content w t at w_at (inr (last, alike)) =
             let now : place ≡ k = last ∙ below.count in
@@ -127,12 +129,12 @@ module _ (files : List (List ℕ)) (contents : List FileContent) (are : AreConte
             let verdict_is : v ≡ w = cc in
             let c_same : Some here.0 ≡ Some content = sym here.1 ∙ (ap (slice_get contents) (sym now) ∙ at) in
             let content_is : here.0 ≡ content = cc in
-            subst (λ (x : List ℕ). IsSaid links (world_of (with_library []) contents) content w x) alike
-            (subst (λ (x : Verdict). IsSaid links (world_of (with_library []) contents) content x text) verdict_is
-            (subst (λ (x : FileContent). IsSaid links (world_of (with_library []) contents) x v text) content_is said_here))
+            subst (λ (x : List ℕ). IsSaid links (world_of (with_library given) contents) content w x) alike
+            (subst (λ (x : Verdict). IsSaid links (world_of (with_library given) contents) content x text) verdict_is
+            (subst (λ (x : FileContent). IsSaid links (world_of (with_library given) contents) x v text) content_is said_here))
 
-  pub all_said : (links : Bool) (k number : ℕ) (said : List (List ℕ)) → AreExplainedBelow links contents verified.verdicts k number said → k ≡ min (length files) (length verified.verdicts)
-      → AreExplained links contents verified.verdicts said
+  pub all_said : (links : Bool) (k number : ℕ) (said : List (List ℕ)) → AreExplainedBelow links given contents verified.verdicts k number said → k ≡ min (length files) (length verified.verdicts)
+      → AreExplained links given contents verified.verdicts said
   all_said links k number said below e = record {
     count = below.count ∙ (e ∙ least (length files) (length verified.verdicts) (sym (as_many files contents are) ∙ sym found.verdicts.count));
     each = below.each;

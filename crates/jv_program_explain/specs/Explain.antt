@@ -1,13 +1,14 @@
 -- What the program says of the files of a guest and of their verdicts (JVMS 4.10, 5.3.5).
 use Rattle.std.specs.Prelude.{◌≡◌, ℕ, Bool, true, false, List, [], None, Some, length, slice_get, string_bytes}
-use Rattle.jv_meaning_world.specs.FileContent.{FileContent, AreContents}
+use Rattle.jv_class.specs.Class.{Class}
+use Rattle.jv_meaning_world.specs.FileContent.{FileContent}
 use Rattle.jv_meaning_world.specs.declared.content.Content.TheVariants.{Holds}
 use Rattle.jv_meaning_world.specs.Library.{with_library}
 use Rattle.jv_meaning_world.specs.World.{World, loaded, world_of}
 use Rattle.jv_meaning_typing.specs.declared.verdict.Verdict.{Verdict}
 use Rattle.jv_meaning_typing.specs.declared.verdict.Verdict.TheVariants.{Accepted}
 use Rattle.jv_limits.specs.FileLimits.{first_file_refusal}
-use Rattle.jv_verify.specs.Files.{AreVerdicts}
+use Rattle.jv_verify.specs.Files.{AreFilesOf, HostStands, Verified}
 use Rattle.jv_program_base.specs.declared.outcome.Outcome.{Outcome}
 use Rattle.jv_program_check.specs.Text.{check_status}
 use Rattle.jv_explain.specs.Explained.{IsExplanation}
@@ -24,23 +25,24 @@ abbrev pub IsSaid : (links : Bool) → World → FileContent → Verdict → Lis
 IsSaid true world content Accepted text = TellsLinks world content text
 IsSaid links world content verdict text = IsExplanation content verdict text
 
--- of each file of a guest what is said of its verdict, or of its class in the guest's world
-pub record AreExplained (links : Bool) (contents : List FileContent) (verdicts : List Verdict) (said : List (List ℕ)) : Type 0 where
+-- of each file of a guest what is said of its verdict, or of its class in the guest's world, with a library of these classes
+pub record AreExplained (links : Bool) (given : List Class) (contents : List FileContent) (verdicts : List Verdict)
+    (said : List (List ℕ)) : Type 0 where
   pub count : length said ≡ length verdicts
   pub each : (place : ℕ) (content : FileContent) (verdict : Verdict) (text : List ℕ) → slice_get contents place ≡ Some content
       → slice_get verdicts place ≡ Some verdict → slice_get said place ≡ Some text
-      → IsSaid links (world_of (with_library []) contents) content verdict text
+      → IsSaid links (world_of (with_library given) contents) content verdict text
 
--- The files are within the limits; the text has for each file the line of `check` and what is said of its verdict, with links or without,
--- in JSON or not, nothing takes its place, and the status is that of `check`.
-pub record IsExplained (json links : Bool) (names files : List (List ℕ)) (outcome : Outcome) : Type 0 where
+-- The files are within the limits, and the library, of which these are the files, stands beside them; the text has for each file the line
+-- of `check` and what is said of its verdict, with links or without, in JSON or not, nothing takes its place, and the status is that of
+-- `check`.
+pub record IsExplained (json links : Bool) (library names files : List (List ℕ)) (outcome : Outcome) : Type 0 where
   pub allowed : first_file_refusal files ≡ None
-  pub contents : List FileContent
-  pub read : AreContents files contents
-  pub verdicts : List Verdict
-  pub right : AreVerdicts [] contents verdicts
+  pub found : Verified
+  pub right : AreFilesOf library files found
+  pub stands : HostStands found
   pub said : List (List ℕ)
-  pub explained : AreExplained links contents verdicts said
-  pub report : string_bytes outcome.report ≡ explain_report json names verdicts said
+  pub explained : AreExplained links right.given right.contents found.verdicts said
+  pub report : string_bytes outcome.report ≡ explain_report json names found.verdicts said
   pub alone : outcome.raw ≡ None
-  pub status : outcome.status ≡ check_status verdicts
+  pub status : outcome.status ≡ check_status found.verdicts

@@ -1,5 +1,5 @@
 //! The verdicts on files, and what is said of them.
-ghost use Rattle.std.specs.Prelude.{◌≡◌, [], IfErr, IfOk, None, length, map, string_bytes};
+ghost use Rattle.std.specs.Prelude.{◌≡◌, IfErr, IfOk, None, length, map, string_bytes};
 ghost use Rattle.jv_limits.specs.Bytes.{bytes_of};
 ghost use Rattle.jv_limits.specs.FileLimits.{first_file_refusal};
 ghost use Rattle.jv_program_check.specs.Check.{IsCheckFailure, IsHostFailure};
@@ -11,10 +11,10 @@ use crate::report::Parts;
 use crate::said::said_of;
 use jv_json::{explained_values, json_lines};
 use jv_limits::first_file_refusal;
-use jv_loader::system_files;
+use jv_loader::SystemFiles;
 use jv_meaning_typing::Verdict;
 use jv_program_base::{Failure, Outcome};
-use jv_program_check::status_of;
+use jv_program_check::{stand, status_of};
 use jv_verify::verify_files;
 use std::alloc::{AllocError, Global};
 use std::hash::RandomState;
@@ -69,37 +69,37 @@ fn outcome_of(
 fn explained(
     alloc: Global,
     state: RandomState,
+    system: &SystemFiles,
     json: bool,
     links: bool,
     names: &[&[u8]],
     files: &[&[u8]],
 ) -> Result<Outcome, Failure>
     requires { first_file_refusal (map bytes_of files.now) ≡ None }
-    ensures ok { IfOk result (IsExplained json links (map bytes_of names.now) (map bytes_of files.now)) }
-    ensures err { IfErr result (IsHostFailure [] (map bytes_of files.now)) }
+    ensures ok { IfOk result (IsExplained json links system.now (map bytes_of names.now) (map bytes_of files.now)) }
+    ensures err { IfErr result (IsHostFailure system.now (map bytes_of files.now)) }
 {
-    let Ok(system) = system_files(alloc) else {
-        return Err(Failure::OutOfMemory);
-    };
-    let Ok(verified) = verify_files(alloc, state, &system, files) else {
+    let Ok(verified) = verify_files(alloc, state, system, files) else {
         return Err(Failure::HostMemory);
     };
+    stand(alloc, state, &verified)?;
     let said = said_of(alloc, links, &verified, files)?;
     Ok(outcome_of(alloc, json, names, verified.verdicts(), said.as_slice())?)
 }
 
-/// Takes files of these names, as many as there are files, as those of one guest, runs nothing, and says of each what its
-/// verdict is, of a method that breaks a rule where and which, and with links of a class that is accepted which references of its methods
-/// don't resolve (JVMS 5.4.3), in JSON or not.
+/// Takes files of these names, as many as there are files, as those of one guest, runs nothing, and says of each what its verdict is beside
+/// the system's classes and a library's, of a method that breaks a rule where and which, and with links of a class that is accepted which
+/// references of its methods don't resolve (JVMS 5.4.3), in JSON or not.
 ///
 /// # Errors
 ///
-/// `Refused` where there are no files, more than 1,024, or one of more than 4,194,304 bytes; else `HostMemory` where the
-/// host had no memory for the classes, and `OutOfMemory` where the program had none for the system's files or
-/// the text.
+/// `Refused` where there are no files, more than 1,024, or one of more than 4,194,304 bytes; else `LibraryRefused` where a class of the
+/// library, or one that it lends to, is not accepted beside them, with its name and verdict; `HostMemory` where the host had no memory for
+/// the classes, and `OutOfMemory` where the program had none for the text.
 pub fn explain_files(
     alloc: Global,
     state: RandomState,
+    system: &SystemFiles,
     json: bool,
     links: bool,
     names: &[&[u8]],
@@ -107,11 +107,11 @@ pub fn explain_files(
 ) -> Result<Outcome, Failure>
     requires { length names.now ≡ length files.now }
     ensures ok { IfOk result (λ outcome.
-        IsExplained json links (map bytes_of names.now) (map bytes_of files.now) outcome) }
-    ensures err { IfErr result (λ failure. IsCheckFailure [] (map bytes_of files.now) failure) }
+        IsExplained json links system.now (map bytes_of names.now) (map bytes_of files.now) outcome) }
+    ensures err { IfErr result (λ failure. IsCheckFailure system.now (map bytes_of files.now) failure) }
 {
     if let Some(fault) = first_file_refusal(files) {
         return Err(Failure::Refused(fault));
     }
-    explained(alloc, state, json, links, names, files)
+    explained(alloc, state, system, json, links, names, files)
 }

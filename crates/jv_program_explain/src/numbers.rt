@@ -7,9 +7,6 @@ ghost use Rattle.jv_verify.specs.Inside.Numbered.{joins, next_number};
 use jv_loader::{Classes, LoadVerdict};
 use jv_meaning_typing::Verdict;
 
-// How many classes of the system there are, behind which those of the files are numbered.
-pub(crate) const SYSTEM_COUNT: usize = 33;
-
 /// Whether the class of a file with this verdict is one of the guest's.
 fn joins(verdict: Verdict) -> bool
     ensures { result ≡ joins (why_of verdict) }

@@ -1,6 +1,6 @@
 //! What is said of the files of a guest.
 
-ghost use Rattle.std.specs.Prelude.{◌≡◌, [], IfOk, IsTrue, Option, Some, map, string_bytes};
+ghost use Rattle.std.specs.Prelude.{◌≡◌, ℕ, IfOk, IsTrue, List, Option, Some, map, string_bytes};
 ghost use Rattle.jv_limits.specs.Bytes.{bytes_of};
 ghost use Rattle.jv_meaning_typing.specs.Judgement.{IsVerdictOfContent};
 ghost use Rattle.jv_meaning_world.specs.FileContent.{FileContent, IsContent};
@@ -10,7 +10,7 @@ ghost use Rattle.jv_program_explain.specs.Inside.Below.{AreSaid};
 ghost use Rattle.jv_program_explain.specs.Inside.Numbered.{IsTypedAt, StandsAt, tells_links};
 ghost use Rattle.jv_verify.specs.Files.{AreFilesOf};
 
-use crate::numbers::{SYSTEM_COUNT, next_number};
+use crate::numbers::next_number;
 use jv_explain::explain_file;
 use jv_links::explain_links;
 use jv_loader::{Classes, OutOfMemory};
@@ -58,13 +58,13 @@ pub(crate) fn said_of(
     verified: &Verified<'_>,
     files: &[&[u8]],
 ) -> Result<Vec<String>, AllocError>
-    requires { AreFilesOf [] (map bytes_of files.now) verified.now }
+    requires { (library : List (List ℕ)) × AreFilesOf library (map bytes_of files.now) verified.now }
     ensures { IfOk result (λ said. AreSaid links (map bytes_of files.now) verified.now (map string_bytes said.items)) }
 {
     let classes = verified.classes();
     let verdicts = verified.verdicts();
     let mut said = Vec::new(alloc);
-    let mut number = SYSTEM_COUNT;
+    let mut number = verified.host_count();
     for place in 0..files.len().min(verdicts.len()) {
         let bytes = bytes_at(files, place);
         let verdict = verdict_at(verdicts, place);

@@ -2,7 +2,7 @@
 --     jvhost run [--library FOLDER] [--cells N] [--words N] [--output N] [--quantum N] [--rounds N] [--stdin K] [--raw K] [--json]
 --         [--progress] [--time] FOLDER...
 --     jvhost check [--library FOLDER] [--json] FILE...
---     jvhost explain [--json] [--links] FILE...
+--     jvhost explain [--library FOLDER] [--json] [--links] FILE...
 use Rattle.std.specs.Prelude.{ℕ, true, List, Some, codes, pos}
 use Rattle.clap.specs.Lexer.{usize_max}
 use Rattle.clap.specs.Walk.{Rule}
@@ -82,7 +82,7 @@ abbrev pub check_line : App
 check_line = with_form (with_names (codes "file") (new_app (codes "check")))
 
 abbrev pub explain_line : App
-explain_line = with_links (with_form (with_rule (new_app (codes "explain")) (one_or_more (codes "file"))))
+explain_line = with_links (with_form (with_names (codes "file") (new_app (codes "explain"))))
 
 -- one of the three commands has to be there; `--help` and `--version` are answered
 abbrev pub command_line : App

@@ -102,12 +102,12 @@ word_in rows name = option_and_then (λ words. slice_get words 0) (all_of name r
 
 -- ---- what is asked for
 
--- to run the guests in folders, to check files, with a report in JSON or not, both with the library in a folder where one is named, or to
--- explain the verdicts on files
+-- to run the guests in folders, to check files, with a report in JSON or not, or to explain the verdicts on files, each with the library
+-- in a folder where one is named
 pub data Asked : Type 0 where
   run : RunOptions → (library : Option (List ℕ)) → (folders : List (List ℕ)) → Asked
   check : (json : Bool) → (library : Option (List ℕ)) → (files : List (List ℕ)) → Asked
-  explain : ExplainOptions → (files : List (List ℕ)) → Asked
+  explain : ExplainOptions → (library : Option (List ℕ)) → (files : List (List ℕ)) → Asked
 
 -- what a command asks for, by its name and the rows of its arguments
 abbrev pub asked_by : List ℕ × List Row → Option Asked
@@ -117,7 +117,8 @@ asked_by (name, rows) =
     (options_in rows)
     else if bytes_eq name (codes "check")
     then option_map (check (is_flag_in rows (codes "json")) (word_in rows (codes "library"))) (all_of (codes "file") rows)
-    else if bytes_eq name (codes "explain") then option_map (explain (explain_options_in rows)) (all_of (codes "file") rows)
+    else if bytes_eq name (codes "explain")
+    then option_map (explain (explain_options_in rows) (word_in rows (codes "library"))) (all_of (codes "file") rows)
     else None
 
 -- What words that the library takes ask for, of which the first is the program's own name; none where they name no command with its names
@@ -141,7 +142,7 @@ AreNames texts names = option_map texts_of names ≡ texts
 abbrev pub asked_of : Settings → Asked
 asked_of (settings.Run options library folders) = run options (text_of library) (texts_of folders)
 asked_of (settings.Check json library files) = check json (text_of library) (texts_of files)
-asked_of (settings.Explain options files) = explain options (texts_of files)
+asked_of (settings.Explain options library files) = explain options (text_of library) (texts_of files)
 
 -- the settings are what is asked for
 abbrev pub IsAskedBy : Option Asked → Option Settings → Type 0

@@ -44,8 +44,8 @@ pub enum Settings<'a> {
     Run(RunOptions, Option<&'a str>, Vec<&'a str>),
     /// To check files, with a report in JSON or not, and with the library in a folder where one is named.
     Check(bool, Option<&'a str>, Vec<&'a str>),
-    /// To explain the verdicts on files, with these options.
-    Explain(ExplainOptions, Vec<&'a str>),
+    /// To explain the verdicts on files, with these options, and with the library in a folder where one is named.
+    Explain(ExplainOptions, Option<&'a str>, Vec<&'a str>),
 }
 
 /// What holds where no option is used: 65,536 cells, words and bytes of output, and 10,000 rounds of turns of 1,000 steps.

@@ -182,7 +182,7 @@ fn explain_line<'a>(alloc: Global) -> Result<Command<'a>, AllocError>
         "links",
         "Tells each reference of an accepted class that won't resolve",
     );
-    let args = [files, json(alloc), links];
+    let args = [files, library(alloc), json(alloc), links];
     Command::new(alloc, "explain")
         .about(about)
         .args(Vec::from_array(alloc, args)?)

@@ -142,7 +142,11 @@ fn asked_by<'a>(
         Ok(Some(Settings::Check(json, library, files)))
     } else if command == "explain" {
         let options = explain_options_in(found);
-        Ok(names_in(alloc, found, "file")?.map(|files| Settings::Explain(options, files)))
+        let library = word_in(found, "library");
+        let Some(files) = names_in(alloc, found, "file")? else {
+            return Ok(None);
+        };
+        Ok(Some(Settings::Explain(options, library, files)))
     } else {
         Ok(None)
     }

@@ -51,10 +51,10 @@ pub returns-in_err-explain_named-in-Explain-clause-unread : goal.returns-in_err-
 returns-in_err-explain_named-in-Explain-clause-unread g c = λ none.
     let line = map string_bytes c.args.words.now in
     let asked = subst (λ (s : Settings). IsAskedIn line s) c.in-Explain.is (c.in_ok-options.ensures {u = tt}).ok in
-    absurd (none (inr (inr (c.in-Explain.options, texts_of c.in-Explain.names, asked))))
+    absurd (none (inr (inr (c.in-Explain.options, text_of c.in-Explain.library, texts_of c.in-Explain.names, asked))))
 
 pub returns-in_ok-explain_named-in-Explain-clause-unread : goal.returns-in_ok-explain_named-in-Explain-clause-unread
 returns-in_ok-explain_named-in-Explain-clause-unread g c = λ none.
     let line = map string_bytes c.args.words.now in
     let asked = subst (λ (s : Settings). IsAskedIn line s) c.in-Explain.is (c.in_ok-options.ensures {u = tt}).ok in
-    absurd (none (inr (inr (c.in-Explain.options, texts_of c.in-Explain.names, asked))))
+    absurd (none (inr (inr (c.in-Explain.options, text_of c.in-Explain.library, texts_of c.in-Explain.names, asked))))
