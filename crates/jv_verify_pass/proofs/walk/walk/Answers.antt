@@ -38,8 +38,8 @@ returns-then-next-size-clause-found c = λ env is r.
     c.loop-offset.offset insn code is.context.code c.insn_at-next.ensures.insn in (
       c.loop-offset-test.true,
       at_end c.stands_in_list.ensures c.starts_apart.ensures env is.is maps c.args.pass.now.context.code c.code-code.result.now.bytes.now c.size-size.result
-          c.loop-offset.offset c.insn_at-next.result.1 insn left c.in_ok-rule.field-0 code is.context.code c.size-size.ensures.bytes c.insn_at-next.ensures.insn c.insn_at-next.ensures.next c.if-next-size.true
-          c.if-falls.ensures c.in_default.is (c.in_ok-rule.ensures.step env is at (c.loop-offset.invariant.3 env is r).reaches),
+          c.loop-offset.offset c.insn_at-next.result.1 insn left c.in_ok-rule.field-0 code is.context.code c.size-size.ensures.bytes c.insn_at-next.ensures.insn c.insn_at-next.ensures.next
+          c.if-next-size.true c.if-falls.ensures c.in_default.is (c.in_ok-rule.ensures.step env is at (c.loop-offset.invariant.3 env is r).reaches),
     )
 
 pub loop-offset-preserved : goal.loop-offset-preserved
