@@ -1,3 +1,4 @@
 pub mod Explained
 pub mod Inside
+pub mod Supers
 pub mod Text

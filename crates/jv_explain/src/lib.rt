@@ -1,10 +1,12 @@
 //! What is said of files behind their verdicts, for people: of a method that breaks a rule its name, the instruction
-//! and the rule (JVMS 4.10.1).
+//! and the rule (JVMS 4.10.1), and of a class that is refused for a direct super which one (JVMS 5.3.5).
 #![tactic(auto)]
 
 mod fault;
 mod file;
 mod place;
+mod supers;
 mod text;
 
 pub use file::explain_file;
+pub use supers::{SuperFault, explain_refusal};
