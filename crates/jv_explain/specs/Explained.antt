@@ -1,4 +1,4 @@
--- What is said of the first rule that a method breaks (JVMS 4.10.1): the method, the instruction and the rule.
+-- What is said of the first rule that a method breaks (JVMS 4.10.1): the method, the instruction, the frames before it and the rule.
 use Rattle.std.specs.Prelude.{◌≡◌, ℕ, false, List, [], ◌++◌, Some, slice_get}
 use Rattle.jv_class.specs.Class.{Method}
 use Rattle.jv_class_structure.specs.Parts.{CodeSeen}
@@ -31,15 +31,15 @@ ShowsPlace site pc rules.HandlerTable text = text ≡ []
 ShowsPlace site pc rules.MapFrames text = text ≡ []
 ShowsPlace site pc rule text = ShowsInstruction site pc text
 
--- the method, the place and the rule
-pub record ExplainsFault (l : Loaded) (fault : VerifyFault) (text : List ℕ) : Type 0 where
+-- the method, the place, the text of the frames there, and the rule
+pub record ExplainsFault (l : Loaded) (fault : VerifyFault) (frames text : List ℕ) : Type 0 where
   pub method : Method
   pub at : slice_get l.class.methods fault.method ≡ Some method
   pub place : List ℕ
   pub shown : ShowsPlace (declared_by l method) fault.offset fault.rule place
-  pub told : text ≡ method_text fault.method method ++ place ++ broken_text fault.rule
+  pub told : text ≡ method_text fault.method method ++ place ++ frames ++ broken_text fault.rule
 
--- of a class whose method breaks a rule, and of nothing else
-abbrev pub IsExplanation : FileContent → Verdict → List ℕ → Type 0
-IsExplanation (Holds class) (Verify fault) text = ExplainsFault (loaded false class) fault text
-IsExplanation content verdict text = text ≡ []
+-- of a class whose method breaks a rule, with the text of the frames there, and of nothing else
+abbrev pub IsExplanation : FileContent → Verdict → (frames text : List ℕ) → Type 0
+IsExplanation (Holds class) (Verify fault) frames text = ExplainsFault (loaded false class) fault frames text
+IsExplanation content verdict frames text = text ≡ []

@@ -41,31 +41,34 @@ fn place_in<'a>(
     }
 }
 
-/// What is said of a method with these texts, of the place where it breaks a rule, and of the rule.
+/// What is said of a method with these texts, of the place where it breaks a rule, of the frames there, and of the rule.
 fn told(
     alloc: Global,
     method: ShownMethod<'_>,
     place: &str,
+    frames: &str,
     rule: VerifyRule,
 ) -> Result<String, AllocError>
     ensures { IfOk result (λ text. string_bytes text
-        ≡ named_text method.entry.number method.entry.name.now method.entry.descriptor.now ++ place.now ++ broken_text rule) }
+        ≡ named_text method.entry.number method.entry.name.now method.entry.descriptor.now ++ place.now ++ frames.now ++ broken_text rule) }
 {
     let shown = ShownFault {
         method,
         place,
+        frames,
         rule,
     };
     shown.to_string(alloc)
 }
 
-/// What is said of the first fault of the class of a file.
+/// What is said of the first fault of the class of a file, with the text of the frames there.
 pub(crate) fn explain_in(
     alloc: Global,
     file: &ClassFile<'_>,
     fault: VerifyFault,
+    frames: &str,
 ) -> Result<String, AllocError>
-    ensures { IfOk result (λ text. ExplainsIn file.now fault (string_bytes text)) }
+    ensures { IfOk result (λ text. ExplainsIn file.now fault frames.now (string_bytes text)) }
 {
     stands_in_list();
     let Some(method) = file.method(usize::from(fault.method)) else {
@@ -77,5 +80,5 @@ pub(crate) fn explain_in(
         name: file.pool().utf8(method.name),
         descriptor: file.pool().utf8(method.descriptor),
     };
-    told(alloc, named, &place, fault.rule)
+    told(alloc, named, &place, frames, fault.rule)
 }

@@ -13,22 +13,27 @@ use jv_meaning_typing::Verdict;
 use jv_meaning_world::{Content, one_content};
 use std::alloc::Global;
 
-/// What is said of a file with these bytes behind the verdict on it: of one whose class's method breaks a rule the method, the instruction
-/// and the rule (JVMS 4.10.1), and of others nothing.
+/// What is said of a file with these bytes behind the verdict on it: of one whose class's method breaks a rule the method, the
+/// instruction, the frames there, of which this is the text, and the rule (JVMS 4.10.1), and of others nothing.
 ///
 /// # Errors
 ///
 /// Where there was no memory for the class or for the text.
-pub fn explain_file(alloc: Global, bytes: &[u8], verdict: Verdict) -> Result<String, OutOfMemory>
+pub fn explain_file(
+    alloc: Global,
+    bytes: &[u8],
+    verdict: Verdict,
+    frames: &str,
+) -> Result<String, OutOfMemory>
     ensures { IfOk result (λ text. (world : World) (why : Option LoadVerdict) (content : FileContent) → IsContent bytes.now content
-        → IsVerdictOfContent world why (Some content) verdict → IsExplanation content verdict (string_bytes text)) }
+        → IsVerdictOfContent world why (Some content) verdict → IsExplanation content verdict frames.now (string_bytes text)) }
 {
     one_content();
     let Verdict::Verify(fault) = verdict else {
         return Ok(String::new(alloc));
     };
     match read_content(alloc, bytes)? {
-        Content::Holds(file) => Ok(explain_in(alloc, &file, fault)?),
+        Content::Holds(file) => Ok(explain_in(alloc, &file, fault, frames)?),
         _ => Ok(String::new(alloc)),
     }
 }

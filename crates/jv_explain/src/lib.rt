@@ -1,4 +1,4 @@
-//! What is said of files behind their verdicts, for people: of a method that breaks a rule its name, the instruction
+//! What is said of files behind their verdicts, for people: of a method that breaks a rule its name, the instruction, the frames before it
 //! and the rule (JVMS 4.10.1), and of a class that is refused for a direct super which one (JVMS 5.3.5).
 #![tactic(auto)]
 

@@ -85,7 +85,8 @@ fn fault_if(fault: SuperFault, wrong: bool) -> Option<SuperFault>
 fn is_below(table: &ClassTable<'_>, class: usize, of: usize) -> bool
     requires class { class < length table.now }
     requires of { of < length table.now }
-    ensures { HoldsAtBoth table.now class of (λ l s. result ≡ (bytes_eq s.class.name l.class.name || is_above table.now l.class.name s.class)) }
+    ensures { HoldsAtBoth table.now class of (λ l s. result
+        ≡ (bytes_eq s.class.name l.class.name || is_above table.now l.class.name s.class)) }
 {
     table.is_numbered();
     of == class || table.is_above(class, of)

@@ -1,3 +1,4 @@
+pub mod Faults
 pub mod InParts
 pub mod Numbering
 pub mod Saying

@@ -11,11 +11,11 @@ use Rattle.jv_meaning_world.specs.World.{Loaded, World, loaded, world_of}
 use Rattle.jv_meaning_world.specs.Verdicts.{load_verdict}
 use Rattle.jv_meaning_typing.specs.declared.verdict.Verdict.{Verdict}
 use Rattle.jv_meaning_typing.specs.declared.verdict.Verdict.TheVariants.{Accepted, Refused, Verify}
-use Rattle.jv_meaning_typing.specs.Judgement.{AreTyped, IsVerdictBehind, IsVerdictOfContent}
+use Rattle.jv_meaning_typing.specs.Judgement.{IsVerdictBehind, IsVerdictOfContent, IsVerdictOfMethods}
 use Rattle.jv_verify.specs.Files.{AreVerdicts}
 use Rattle.jv_verify.specs.Inside.Numbered.{joins, next_number, number_behind}
 use Rattle.jv_verify.proofs.Numbered.{next_behind, stands}
-use Rattle.jv_program_explain.specs.Inside.Numbered.{IsTypedAt, StandsAt, tells_links, why_of}
+use Rattle.jv_program_explain.specs.Inside.Numbered.{IsJudgedAt, StandsAt, is_on_methods, tells_links, why_of}
 
 -- ---- what a verdict says of what was wrong before
 
@@ -34,13 +34,18 @@ known_why world None OtherVersion v h = absurd h
 known_why world None NoClassFile v h = absurd h
 known_why world None MoreThanProfile v h = absurd h
 
-accepted_by : (links : Bool) (v : Verdict) → IsTrue (tells_links links v) → v ≡ Accepted
+pub accepted_by : (links : Bool) (v : Verdict) → IsTrue (tells_links links v) → v ≡ Accepted
 accepted_by true Accepted on = refl
 accepted_by true (Refused w) on = absurd cc
 accepted_by true (Verify f) on = absurd cc
 accepted_by false Accepted on = absurd cc
 accepted_by false (Refused w) on = absurd cc
 accepted_by false (Verify f) on = absurd cc
+
+on_methods : (v : Verdict) → IsTrue (is_on_methods v) → why_of v ≡ None
+on_methods Accepted on = refl
+on_methods (Verify f) on = refl
+on_methods (Refused w) on = absurd cc
 
 holds_one : (one other : Class) → Holds one ≡ Holds other → one ≡ other
 holds_one one other e = cc
@@ -72,27 +77,23 @@ module _ (given : List Class) (contents : List FileContent) (verdicts : List Ver
       let found = stands_there on in
       slice_get_within world number (loaded false found.0) found.2
 
-  module _ (links : Bool) (on : IsTrue (tells_links links v)) where
-    is_accepted : v ≡ Accepted
-    is_accepted = accepted_by links v on
-
+  module _ (on : IsTrue (is_on_methods v)) where
     found : (class : Class) × (f ≡ Holds class) × (slice_get world number ≡ Some (loaded false class))
-    found = stands_there (ap (λ (x : Verdict). joins (why_of x)) is_accepted)
+    found = stands_there (ap joins (on_methods v on))
 
     none_wrong : load_verdict (with_library given) contents k ≡ None
-    none_wrong = sym why_is ∙ ap why_of is_accepted
+    none_wrong = sym why_is ∙ on_methods v on
 
-    are_typed : AreTyped world (loaded false found.0) found.0.methods
-    are_typed =
-        subst (λ (w : Option LoadVerdict). IsVerdictBehind world (loaded false found.0) w Accepted) none_wrong
-        (subst (λ (g : FileContent). IsVerdictOfContent world (load_verdict (with_library given) contents k) (Some g) Accepted) found.1
-        (subst (λ (x : Verdict). IsVerdictOfContent world (load_verdict (with_library given) contents k) (Some f) x) is_accepted of_file))
+    is_judged : IsVerdictOfMethods world (loaded false found.0) v
+    is_judged =
+        subst (λ (w : Option LoadVerdict). IsVerdictBehind world (loaded false found.0) w v) none_wrong
+        (subst (λ (g : FileContent). IsVerdictOfContent world (load_verdict (with_library given) contents k) (Some g) v) found.1 of_file)
 
-    pub typed_there : IsTypedAt world number
-    typed_there = record {
+    pub judged_there : IsJudgedAt world number v
+    judged_there = record {
       class = slice_get_within world number (loaded false found.0) found.2;
       guest = λ l here. by_class l here;
-      typed = λ l here. subst (λ (x : Loaded). AreTyped world x x.class.methods) (same l here) are_typed;
+      judged = λ l here. subst (λ (x : Loaded). IsVerdictOfMethods world x v) (same l here) is_judged;
     }
       where
         same : (l : Loaded) → slice_get world number ≡ Some l → loaded false found.0 ≡ l

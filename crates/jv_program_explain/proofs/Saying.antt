@@ -14,8 +14,8 @@ use Rattle.jv_verify.specs.Files.{AreVerified, Verified}
 use Rattle.jv_verify.specs.Inside.Numbered.{joins, next_number, number_behind}
 use Rattle.jv_program_explain.specs.Explain.{AreExplained, IsSaid}
 use Rattle.jv_program_explain.specs.Inside.Below.{AreExplainedBelow}
-use Rattle.jv_program_explain.specs.Inside.Numbered.{IsTypedAt, StandsAt, tells_links, why_of}
-use Rattle.jv_program_explain.proofs.Numbering.{class_there, is_within, next_is, of_file, typed_there}
+use Rattle.jv_program_explain.specs.Inside.Numbered.{IsJudgedAt, StandsAt, is_on_methods, why_of}
+use Rattle.jv_program_explain.proofs.Numbering.{class_there, is_within, judged_there, next_is, of_file}
 
 pushed : {X : Type 0} (xs : List X) (x : X) (k : ℕ) (y : X) → slice_get (xs ++ x ∷ []) k ≡ Some y → (slice_get xs k ≡ Some y) ⊎ ((k ≡ length xs) × (x ≡ y))
 pushed [] x zero y e = inr (refl, cc)
@@ -81,11 +81,11 @@ module _ (files : List (List ℕ)) (given : List Class) (contents : List FileCon
     is_world : world ≡ world_of (with_library given) contents
     is_world = same ∙ found.world
 
-    pub typed_at : IsTrue (tells_links links v) → IsTypedAt world number
-    typed_at on =
-        subst (λ (w : World). IsTypedAt w number) (sym is_world)
-        (subst (λ (n : ℕ). IsTypedAt (world_of (with_library given) contents) n) (sym number_is)
-        (typed_there given contents verified.verdicts found.verdicts k here.0 v here.1 judged links on))
+    pub judged_at : IsTrue (is_on_methods v) → IsJudgedAt world number v
+    judged_at on =
+        subst (λ (w : World). IsJudgedAt w number v) (sym is_world)
+        (subst (λ (n : ℕ). IsJudgedAt (world_of (with_library given) contents) n v) (sym number_is)
+        (judged_there given contents verified.verdicts found.verdicts k here.0 v here.1 judged on))
 
     pub within_at : IsTrue (joins (why_of v)) → number < length world
     within_at on =
@@ -96,7 +96,7 @@ module _ (files : List (List ℕ)) (given : List Class) (contents : List FileCon
     pub one_more : (said : List (List ℕ)) → AreExplainedBelow links given contents verified.verdicts k number said → (bytes text : List ℕ) (next : ℕ) → slice_get files k ≡ Some bytes
         → next ≡ next_number number (why_of v)
         → ((why : Option LoadVerdict) (content : FileContent) → IsContent bytes content → IsVerdictOfContent world why (Some content) v
-        → (IsTrue (tells_links links v) → StandsAt world number content) → IsSaid links world content v text)
+        → (IsTrue (is_on_methods v) → StandsAt world number content) → IsSaid links world content v text)
         → AreExplainedBelow links given contents verified.verdicts (k + 1) next (said ++ text ∷ [])
     one_more said below bytes text next file next_on says = record {
       number_is =
@@ -118,7 +118,7 @@ module _ (files : List (List ℕ)) (given : List Class) (contents : List FileCon
             (of_file given contents verified.verdicts found.verdicts k here.0 v here.1 judged))
             (λ on. subst (λ (w : World). StandsAt w number here.0) (sym is_world)
             (subst (λ (n : ℕ). StandsAt (world_of (with_library given) contents) n here.0) (sym number_is)
-            (class_there given contents verified.verdicts found.verdicts k here.0 v here.1 judged links on))))
+            (class_there given contents verified.verdicts found.verdicts k here.0 v here.1 judged on))))
 
         by_place : (place : ℕ) (content : FileContent) (w : Verdict) (t : List ℕ) → slice_get contents place ≡ Some content → slice_get verified.verdicts place ≡ Some w
             → (slice_get said place ≡ Some t) ⊎ ((place ≡ length said) × (text ≡ t)) → IsSaid links (world_of (with_library given) contents) content w t

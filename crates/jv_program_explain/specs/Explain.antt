@@ -6,13 +6,15 @@ use Rattle.jv_meaning_world.specs.declared.content.Content.TheVariants.{Holds}
 use Rattle.jv_meaning_world.specs.Library.{with_library}
 use Rattle.jv_meaning_world.specs.World.{World, loaded, world_of}
 use Rattle.jv_meaning_typing.specs.declared.verdict.Verdict.{Verdict}
-use Rattle.jv_meaning_typing.specs.declared.verdict.Verdict.TheVariants.{Accepted}
+use Rattle.jv_meaning_typing.specs.declared.verdict.Verdict.TheVariants.{Accepted, Refused}
 use Rattle.jv_limits.specs.FileLimits.{first_file_refusal}
 use Rattle.jv_verify.specs.Files.{AreFilesOf, HostStands, Verified}
 use Rattle.jv_program_base.specs.declared.outcome.Outcome.{Outcome}
 use Rattle.jv_program_check.specs.Text.{check_status}
 use Rattle.jv_explain.specs.Explained.{IsExplanation}
+use Rattle.jv_explain.specs.Supers.{IsRefusalTold}
 use Rattle.jv_links.specs.Text.{AreLinksTold}
+use Rattle.jv_program_explain.specs.Frames.{AreFramesShown}
 use Rattle.jv_program_explain.specs.Text.{explain_report}
 
 -- the references that don't resolve of the class that an accepted file holds (5.4.3)
@@ -20,10 +22,21 @@ abbrev pub TellsLinks : World → FileContent → List ℕ → Type 0
 TellsLinks world (Holds class) text = AreLinksTold world (loaded false class) text
 TellsLinks world content text = text ≡ []
 
+-- what its verdict is about, with the frames there
+pub record IsExplainedBy (world : World) (content : FileContent) (verdict : Verdict) (text : List ℕ) : Type 0 where
+  pub frames : List ℕ
+  pub shown : AreFramesShown world content verdict frames
+  pub told : IsExplanation content verdict frames text
+
+-- of a verdict: the direct super for which the class was refused, or the method that breaks a rule
+abbrev pub IsVerdictTold : World → FileContent → Verdict → List ℕ → Type 0
+IsVerdictTold world content (Refused why) text = IsRefusalTold world content why text
+IsVerdictTold world content verdict text = IsExplainedBy world content verdict text
+
 -- what is said of a file: with links, these of one that is accepted; else what its verdict is about
 abbrev pub IsSaid : (links : Bool) → World → FileContent → Verdict → List ℕ → Type 0
 IsSaid true world content Accepted text = TellsLinks world content text
-IsSaid links world content verdict text = IsExplanation content verdict text
+IsSaid links world content verdict text = IsVerdictTold world content verdict text
 
 -- of each file of a guest what is said of its verdict, or of its class in the guest's world, with a library of these classes
 pub record AreExplained (links : Bool) (given : List Class) (contents : List FileContent) (verdicts : List Verdict)

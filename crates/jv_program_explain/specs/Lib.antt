@@ -1,4 +1,5 @@
 pub mod Explain
+pub mod Frames
 pub mod Inside
 pub mod Named
 pub mod Text

@@ -83,7 +83,7 @@ fn explained(
         return Err(Failure::HostMemory);
     };
     stand(alloc, state, &verified)?;
-    let said = said_of(alloc, links, &verified, files)?;
+    let said = said_of(alloc, state, links, &verified, files)?;
     Ok(outcome_of(alloc, json, names, verified.verdicts(), said.as_slice())?)
 }
 

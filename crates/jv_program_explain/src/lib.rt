@@ -3,6 +3,7 @@
 #![tactic(auto)]
 
 mod explaining;
+mod frames;
 mod named;
 mod numbers;
 mod report;

@@ -5,19 +5,21 @@ ghost use Rattle.jv_limits.specs.Bytes.{bytes_of};
 ghost use Rattle.jv_meaning_typing.specs.Judgement.{IsVerdictOfContent};
 ghost use Rattle.jv_meaning_world.specs.FileContent.{FileContent, IsContent};
 ghost use Rattle.jv_meaning_world.specs.declared.verdict.LoadVerdict.{LoadVerdict};
-ghost use Rattle.jv_program_explain.specs.Explain.{IsSaid};
+ghost use Rattle.jv_program_explain.specs.Explain.{IsSaid, IsVerdictTold};
 ghost use Rattle.jv_program_explain.specs.Inside.Below.{AreSaid};
-ghost use Rattle.jv_program_explain.specs.Inside.Numbered.{IsTypedAt, StandsAt, tells_links};
+ghost use Rattle.jv_program_explain.specs.Inside.Numbered.{IsJudgedAt, StandsAt, is_on_methods, tells_links};
 ghost use Rattle.jv_verify.specs.Files.{AreFilesOf};
 
+use crate::frames::frames_shown;
 use crate::numbers::next_number;
-use jv_explain::explain_file;
+use jv_explain::{explain_file, explain_refusal};
 use jv_links::explain_links;
 use jv_loader::{Classes, OutOfMemory};
 use jv_meaning_typing::Verdict;
 use jv_program_base::{bytes_at, verdict_at};
 use jv_verify::Verified;
 use std::alloc::{AllocError, Global};
+use std::hash::RandomState;
 
 /// Whether the references of the class of a file with this verdict are told.
 fn tells_links(links: bool, verdict: Verdict) -> bool
@@ -29,31 +31,57 @@ fn tells_links(links: bool, verdict: Verdict) -> bool
     }
 }
 
-/// What is said of a file with these bytes and this verdict, whose class has a number where its references are told.
+/// What is said of the verdict on a file with these bytes, whose class has a number where its methods were looked at. Names are hashed
+/// with the state.
+fn verdict_told(
+    alloc: Global,
+    state: RandomState,
+    classes: &Classes<'_>,
+    number: usize,
+    bytes: &[u8],
+    verdict: Verdict,
+) -> Result<String, OutOfMemory>
+    requires { IsTrue (is_on_methods verdict) → IsJudgedAt classes.now.world number verdict }
+    ensures { IfOk result (λ text. (why : Option LoadVerdict) (content : FileContent) → IsContent bytes.now content
+        → IsVerdictOfContent classes.now.world why (Some content) verdict
+        → (IsTrue (is_on_methods verdict) → StandsAt classes.now.world number content)
+        → IsVerdictTold classes.now.world content verdict (string_bytes text)) }
+{
+    if let Verdict::Refused(why) = verdict {
+        return explain_refusal(alloc, classes, bytes, why);
+    }
+    let frames = frames_shown(alloc, state, classes, number, verdict)?;
+    explain_file(alloc, bytes, verdict, &frames)
+}
+
+/// What is said of a file with these bytes and this verdict, whose class has a number where its methods were looked at. Names are hashed
+/// with the state.
 fn said_at(
     alloc: Global,
+    state: RandomState,
     links: bool,
     classes: &Classes<'_>,
     number: usize,
     bytes: &[u8],
     verdict: Verdict,
 ) -> Result<String, OutOfMemory>
-    requires { IsTrue (tells_links links verdict) → IsTypedAt classes.now.world number }
+    requires { IsTrue (is_on_methods verdict) → IsJudgedAt classes.now.world number verdict }
     ensures { IfOk result (λ text. (why : Option LoadVerdict) (content : FileContent) → IsContent bytes.now content
         → IsVerdictOfContent classes.now.world why (Some content) verdict
-        → (IsTrue (tells_links links verdict) → StandsAt classes.now.world number content)
+        → (IsTrue (is_on_methods verdict) → StandsAt classes.now.world number content)
         → IsSaid links classes.now.world content verdict (string_bytes text)) }
 {
     if tells_links(links, verdict) {
         Ok(explain_links(alloc, classes, number)?)
     } else {
-        explain_file(alloc, bytes, verdict)
+        verdict_told(alloc, state, classes, number, bytes, verdict)
     }
 }
 
-/// What is said of the files of a guest, of which this is found.
+/// What is said of the files of a guest, of which this is found. Names are hashed with the state.
 pub(crate) fn said_of(
     alloc: Global,
+    state: RandomState,
     links: bool,
     verified: &Verified<'_>,
     files: &[&[u8]],
@@ -68,7 +96,7 @@ pub(crate) fn said_of(
     for place in 0..files.len().min(verdicts.len()) {
         let bytes = bytes_at(files, place);
         let verdict = verdict_at(verdicts, place);
-        let Ok(text) = said_at(alloc, links, classes, number, bytes, verdict) else {
+        let Ok(text) = said_at(alloc, state, links, classes, number, bytes, verdict) else {
             return Err(AllocError);
         };
         said.push(text).map_err(AllocError::from)?;

@@ -1,3 +1,4 @@
+pub mod Frames
 pub mod Instructions
 pub mod Mnemonics
 pub mod Rules

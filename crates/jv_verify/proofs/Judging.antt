@@ -41,7 +41,7 @@ breaks_map world env same code right none = (refl, record { env = env; world_is 
 -- ---- a rule that is broken at an instruction
 
 module _ (world : World) (env : Environment) (maps : List PlacedFrame) (same : env.world ≡ world) (code : IsCodeOf env) (right : HandlersKeepRules env) (frames : AreFrames env maps) where
-  with_frames : (P : Environment → List PlacedFrame → Type 0) → P env maps → WithFrames world env.site P
+  pub with_frames : (P : Environment → List PlacedFrame → Type 0) → P env maps → WithFrames world env.site P
   with_frames P holds = record { env = env; world_is = same; site_is = refl; code = code; handlers = right; maps = maps; frames = frames; holds = holds }
 
   breaks : (offset : ℕ) (broken : VerifyRule) → IsBroken env maps offset broken → BreaksRule world env.site offset broken

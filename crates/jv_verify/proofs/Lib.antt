@@ -1,3 +1,4 @@
+pub mod BrokenThere
 pub mod EntryWords
 pub mod Environments
 pub mod Hosts
@@ -6,3 +7,4 @@ pub mod Numbered
 pub mod Parts
 pub mod Placed
 pub mod Shown
+pub mod StandingBefore

@@ -2,3 +2,4 @@ pub mod Known
 pub mod Numbered
 pub mod Read
 pub mod Shown
+pub mod Typed

@@ -1,4 +1,6 @@
 pub mod Files
+pub mod Frames
 pub mod Inside
 pub mod Judged
 pub mod Methods
+pub use Rattle.jv_verify_pass.specs.Before

@@ -4,16 +4,17 @@ ghost use Rattle.std.specs.Prelude.{◌≡◌};
 ghost use Rattle.jv_class_structure.specs.Seen.{seen_code, seen_method};
 ghost use Rattle.jv_meaning_typing.specs.Uses.{Site};
 ghost use Rattle.jv_verify.specs.Judged.{IsMethodOf};
-ghost use Rattle.jv_verify.specs.Inside.Known.{HasEnvironment, IsVerdictWith, IsVerdictOn};
+ghost use Rattle.jv_verify.specs.Inside.Known.{HasEnvironment, IsEnvironmentOf, IsEnvironmentWith, IsVerdictWith, IsVerdictOn};
+ghost use Rattle.jv_verify.specs.Inside.Typed.{IsSomeTyped, StandInEach};
 
 use crate::entries::{initial_items, words_within};
 use crate::known::{is_named_init, is_static, known_types};
 use crate::read::ReadMethod;
-use crate::tables::{broken, check_tables};
+use crate::tables::{broken, check_tables, frames_in_tables};
 use jv_class_structure::{Method, MethodCode};
 use jv_code::Code;
 use jv_meaning_typing::VerifyRule;
-use jv_verify_pass::{CodeFault, FrameRoom};
+use jv_verify_pass::{CodeFault, FrameRoom, FramesBefore};
 use jv_verify_types::{CurrentClass, MethodTypes};
 use std::alloc::{AllocError, Global};
 
@@ -63,4 +64,52 @@ pub fn check_method<'a>(
         Ok(read) => check_typed(alloc, room, class, method, code, &read, types),
         Err(_) => Ok(Some(broken(VerifyRule::Code))),
     }
+}
+
+/// What stands before the instruction at an offset of a method whose body has this code, and whose descriptor says these types.
+fn frames_typed<'a>(
+    alloc: Global,
+    class: &CurrentClass<'_, '_, 'a>,
+    method: &Method<'a>,
+    body: &MethodCode<'a>,
+    code: &Code<'a>,
+    types: MethodTypes<'_>,
+    offset: u32,
+) -> Result<FramesBefore<'a>, AllocError>
+    requires code { code.now.bytes.now ≡ body.now.code.now }
+    requires some { IsSomeTyped (IsEnvironmentWith class.now (seen_method method.now) (seen_code body.now) types) offset }
+    ensures { StandInEach (IsEnvironmentWith class.now (seen_method method.now) (seen_code body.now) types.entry)
+        class.now.types.world offset result }
+{
+    let is_init = is_named_init(class, method);
+    let items = initial_items(alloc, class, is_static(method), is_init, types.arguments)?;
+    let Some(count) = words_within(&items, body.max_locals) else {
+        unreachable!();
+    };
+    let read = ReadMethod::new(class, body, code, &items, count, is_init, types.result);
+    frames_in_tables(alloc, &read, offset)
+}
+
+/// What stands before the instruction at an offset of a method of the current class (JVMS 4.10.1.6), below which all are type safe.
+///
+/// # Errors
+///
+/// Where the host had no memory for its frames.
+pub fn frames_in_method<'a>(
+    alloc: Global,
+    class: &CurrentClass<'_, '_, 'a>,
+    method: &Method<'a>,
+    body: &MethodCode<'a>,
+    offset: u32,
+) -> Result<FramesBefore<'a>, AllocError>
+    requires { IsSomeTyped (IsEnvironmentOf class.now (seen_method method.now) (seen_code body.now)) offset }
+    ensures { StandInEach (IsEnvironmentOf class.now (seen_method method.now) (seen_code body.now)) class.now.types.world offset result }
+{
+    let Some(types) = known_types(class, method, body) else {
+        unreachable!();
+    };
+    let Ok(code) = Code::read(body.code) else {
+        unreachable!();
+    };
+    frames_typed(alloc, class, method, body, &code, types, offset)
 }

@@ -6,6 +6,7 @@ mod check;
 mod class;
 mod entries;
 mod files;
+mod frames;
 mod known;
 mod methods;
 mod read;
@@ -13,5 +14,7 @@ mod tables;
 mod verified;
 
 pub use class::check_class;
+pub use frames::frames_before;
 pub use jv_meaning_typing::{Verdict, VerifyFault, VerifyRule};
+pub use jv_verify_pass::{FramesBefore, NamedFrame, NamedType};
 pub use verified::{Verified, verify, verify_files};

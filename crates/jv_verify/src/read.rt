@@ -7,13 +7,16 @@ ghost use Rattle.jv_meaning_typing.specs.Environment.{Environment};
 ghost use Rattle.jv_meaning_typing.specs.Typing.{HandlersKeepRules};
 ghost use Rattle.jv_verify_types.specs.Typed.{typed_all};
 ghost use Rattle.jv_verify_rules.specs.Method.{IsOfMethod};
+ghost use Rattle.jv_verify.specs.Inside.Typed.{IsSomeTyped, StandInEach};
 ghost use Rattle.jv_verify.specs.Inside.Read.{IsOfRead, HasReadFrames, HaveRoom, types_of, IsMapRead, IsVerdictBehindFrames};
 
 use jv_class_structure::MethodCode;
 use jv_code::{Code, Starts};
-use jv_stackmap::{Limits, MapFrames};
+use jv_stackmap::{Limits, MapFrames, one_maps};
 use jv_text::FieldTypeOf;
-use jv_verify_pass::{CodeFault, FrameRoom, Pass, check_code, handlers_hold, read_map};
+use jv_verify_pass::{
+    CodeFault, FrameRoom, FramesBefore, Pass, check_code, frames_before, handlers_hold, read_map,
+};
 use jv_verify_rules::MethodContext;
 use jv_verify_types::{CurrentClass, EntryTypes, Item};
 use std::alloc::{AllocError, Global};
@@ -191,5 +194,33 @@ impl<'m, 'e, 't, 'a> ReadMethod<'m, 'e, 't, 'a> {
             frames,
         );
         check_code(alloc, room, &pass)
+    }
+
+    /// What stands before the instruction at an offset, where the frames are those of the stack map.
+    pub(crate) fn frames_before(
+        &self,
+        alloc: Global,
+        starts: &Starts<'a>,
+        frames: &MapFrames,
+        offset: u32,
+    ) -> Result<FramesBefore<'a>, AllocError>
+        requires starts { starts.now ≡ self.now.body.code }
+        requires room { HaveRoom self.now frames.now }
+        requires some { IsSomeTyped (HasReadFrames self.now frames.now) offset }
+        ensures { StandInEach (HasReadFrames self.now frames.now) self.now.class.types.world offset result }
+    {
+        one_maps();
+        let context = self.context(starts);
+        let types = self.entry_types();
+        let pass = Pass::new(
+            &context,
+            &types,
+            self.initial,
+            self.count,
+            self.body.max_locals,
+            self.body.exception_table,
+            frames,
+        );
+        frames_before(alloc, &pass, offset)
     }
 }

@@ -4,12 +4,13 @@ ghost use Rattle.std.specs.Prelude.{◌≡◌, IfOk};
 ghost use Rattle.jv_meaning_typing.specs.Environment.{Environment};
 ghost use Rattle.jv_meaning_typing.specs.Typing.{HandlersKeepRules};
 ghost use Rattle.jv_verify.specs.Judged.{IsVerdictOnMethod};
+ghost use Rattle.jv_verify.specs.Inside.Typed.{IsSomeTyped, StandInEach};
 ghost use Rattle.jv_verify.specs.Inside.Read.{IsOfRead, IsVerdictBehindHandlers};
 
 use crate::read::ReadMethod;
 use jv_code::Starts;
 use jv_meaning_typing::VerifyRule;
-use jv_verify_pass::{CodeFault, FrameRoom};
+use jv_verify_pass::{CodeFault, FrameRoom, FramesBefore};
 use std::alloc::{AllocError, Global};
 
 /// A rule on the whole code is broken, which is at offset 0.
@@ -52,4 +53,20 @@ pub(crate) fn check_tables(
     } else {
         Ok(Some(broken(VerifyRule::HandlerTable)))
     }
+}
+
+/// What stands before the instruction at an offset of a method whose code was read.
+pub(crate) fn frames_in_tables<'a>(
+    alloc: Global,
+    method: &ReadMethod<'_, '_, '_, 'a>,
+    offset: u32,
+) -> Result<FramesBefore<'a>, AllocError>
+    requires { IsSomeTyped (IsOfRead method.now) offset }
+    ensures { StandInEach (IsOfRead method.now) method.now.class.types.world offset result }
+{
+    let starts = method.starts(alloc)?;
+    let Some(frames) = method.map_frames(alloc, &starts)? else {
+        unreachable!();
+    };
+    method.frames_before(alloc, &starts, &frames, offset)
 }

@@ -47,6 +47,6 @@ ShowsFaultIn pool shown fault text =
     → ShowsPlace (declared_by l m) fault.offset fault.rule text
 
 -- of the class of a file
-abbrev pub ExplainsIn : ClassStructure → VerifyFault → List ℕ → Type 0
-ExplainsIn file fault text =
-    (world : World) (l : Loaded) → class_of file ≡ Some l.class → IsFirstFault world l fault → ExplainsFault l fault text
+abbrev pub ExplainsIn : ClassStructure → VerifyFault → (frames text : List ℕ) → Type 0
+ExplainsIn file fault frames text =
+    (world : World) (l : Loaded) → class_of file ≡ Some l.class → IsFirstFault world l fault → ExplainsFault l fault frames text

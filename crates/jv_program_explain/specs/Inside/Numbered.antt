@@ -8,7 +8,7 @@ use Rattle.jv_meaning_world.specs.Numbers.{HoldsAtNumber}
 use Rattle.jv_meaning_world.specs.World.{World, loaded}
 use Rattle.jv_meaning_typing.specs.declared.verdict.Verdict.{Verdict}
 use Rattle.jv_meaning_typing.specs.declared.verdict.Verdict.TheVariants as verdicts
-use Rattle.jv_meaning_typing.specs.Judgement.{AreTyped}
+use Rattle.jv_meaning_typing.specs.Judgement.{IsVerdictOfMethods}
 
 -- what a verdict says was wrong before methods were looked at
 abbrev pub why_of : Verdict → Option LoadVerdict
@@ -20,11 +20,16 @@ abbrev pub tells_links : (links : Bool) → Verdict → Bool
 tells_links true verdicts.Accepted = true
 tells_links _ _ = false
 
--- the class with a number is a guest's, and its methods are typed
-pub record IsTypedAt (world : World) (number : ℕ) : Type 0 where
+-- the verdict is about the methods of a class
+abbrev pub is_on_methods : Verdict → Bool
+is_on_methods (verdicts.Refused why) = false
+is_on_methods _ = true
+
+-- the class with a number is a guest's, and this is the verdict on its methods
+pub record IsJudgedAt (world : World) (number : ℕ) (verdict : Verdict) : Type 0 where
   pub class : number < length world
   pub guest : HoldsAtNumber world number (λ l. l.by_system ≡ false)
-  pub typed : HoldsAtNumber world number (λ l. AreTyped world l l.class.methods)
+  pub judged : HoldsAtNumber world number (λ l. IsVerdictOfMethods world l verdict)
 
 -- it is the one that a file holds
 abbrev pub StandsAt : World → ℕ → FileContent → Type 0

@@ -24,6 +24,11 @@ pub record HasTypes (types : CallTypes) (body : CodeSeen) (env : Environment) : 
   pub described : call_types env.descriptor ≡ types
   pub fit : argument_words env ≤ body.max_locals
 
+-- an environment of the method whose descriptor says these types
+abbrev pub IsEnvironmentWith : CurrentClass → MethodSeen → CodeSeen → MethodTypes → Environment → Type 0
+IsEnvironmentWith class shown body types env =
+    IsEnvironmentOf class shown body env × HasTypes (typed_call class.types.names types) body env
+
 -- ---- in every environment of the method
 
 -- whatever its body is, the words of its arguments are these

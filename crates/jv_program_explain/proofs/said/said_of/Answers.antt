@@ -4,7 +4,7 @@ use Rattle.std.proofs.lemmas.List.{length-map, map-append}
 use Rattle.std.proofs.lemmas.Option.{slice_get-map}
 use Rattle.jv_limits.specs.Bytes.{bytes_of}
 use Rattle.jv_program_explain.specs.Inside.Below.{AreExplainedBelow}
-use Rattle.jv_program_explain.proofs.Saying.{all_said, none_yet, one_more, typed_at, within_at}
+use Rattle.jv_program_explain.proofs.Saying.{all_said, none_yet, one_more, judged_at, within_at}
 use Rattle.jv_program_explain.proofs.said.said_of.Goals as goal
 
 pub loop-place-init : goal.loop-place-init
@@ -19,7 +19,7 @@ said_at-requires c =
     let are = c.requires.1 in
     let many : length (map bytes_of files) ≡ length files = length-map files bytes_of in
     let less : c.loop-place.place < length files = search rules in
-    typed_at (map bytes_of files) are.given are.contents are.read c.args.verified.now are.found c.args.links c.loop-place.place (omega (arith, many, less)) c.verdict_at-verdict.result
+    judged_at (map bytes_of files) are.given are.contents are.read c.args.verified.now are.found c.args.links c.loop-place.place (omega (arith, many, less)) c.verdict_at-verdict.result
     (ap (λ vs. slice_get vs c.loop-place.place) (sym c.verdicts-verdicts.ensures) ∙ c.verdict_at-verdict.ensures) c.loop-place.number
     (c.loop-place.invariant are.given are.contents are.read are.found).number_is c.classes-classes.result.now.world c.classes-classes.ensures
 
