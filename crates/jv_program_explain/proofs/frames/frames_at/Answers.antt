@@ -8,7 +8,7 @@ use Rattle.jv_program_explain.proofs.frames.frames_at.Goals as goal
 
 pub returns-then-not-is_at_instruction : goal.returns-then-not-is_at_instruction
 returns-then-not-is_at_instruction c = λ l at.
-    at_none c.args.classes.now.world l c.args.fault (string_bytes c.new.result) c.args.fault.rule (sym c.if-not-is_at_instruction.ensures ∙ c.if-not-is_at_instruction.true) c.new.ensures.bytes
+    at_none c.args.classes.now.world l c.args.fault (string_bytes c.new.result) c.args.fault.rule (sym c.if-not-is_at_instruction.ensures) c.new.ensures.bytes
 
 pub frames_before-requires-clause-typed : goal.frames_before-requires-clause-typed
 frames_before-requires-clause-typed c = λ l at.

@@ -1,8 +1,7 @@
-use Rattle.std.proofs.Common.{◌≡◌, List, ℕ, sym, subst}
+use Rattle.std.proofs.Common.{List, ℕ, sym, subst}
 use Rattle.std.specs.Prelude.{string_bytes}
 use Rattle.std.proofs.lemmas.Result.{IfOk-weaker}
 use Rattle.jv_meaning_typing.specs.declared.verdict.Verdict.{Verdict}
-use Rattle.jv_meaning_typing.specs.declared.verdict.Verdict.TheVariants.{Refused}
 use Rattle.jv_explain.specs.Explained.{IsExplanation}
 use Rattle.jv_program_explain.specs.Explain.{IsVerdictTold}
 use Rattle.jv_program_explain.proofs.Faults.{told_so}
@@ -24,6 +23,6 @@ returns c =
     (record {
       frames = string_bytes c.in_ok-frames.frames;
       shown = c.in_ok-frames.ensures why content v stands;
-      told = subst (λ (f : List ℕ). IsExplanation content c.args.verdict f (string_bytes text)) c.deref.ensures (told why content is v);
+      told = subst (λ (f : List ℕ). IsExplanation content c.args.verdict f (string_bytes text)) c.deref.ensures (told world why content is v);
     }))
     c.explain_file.ensures
