@@ -13,24 +13,19 @@ ghost use Rattle.jv_lookups.specs.Finals.{PassesWith};
 
 use crate::keys::{FinalKeys, row_of};
 use crate::marks::Marks;
-use crate::member::{FINAL, PRIVATE, can_override, is_instance, is_overridden};
-use jv_classes::{KeyRow, LoadedClass, Member, Text};
+use crate::member::{FINAL, NamedMethod, PRIVATE, can_override, is_instance, is_overridden};
+use jv_classes::{KeyRow, LoadedClass};
 
 // how many superclasses that may declare a method final it is looked up in at most, the highest one first, before it goes over those below
 const MOST_LOOKS: usize = 4;
 
 /// The flags of the instance method of a class with the name and descriptor of another.
-fn flags_alike(
-    class: &LoadedClass<'_>,
-    method: &Member<'_>,
-    name: &Text<'_>,
-    descriptor: &Text<'_>,
-) -> Option<u16>
-    requires name { name.now ≡ method.now.name.now }
-    requires descriptor { descriptor.now ≡ method.now.descriptor.now }
-    ensures { result ≡ flags_alike class.now (as_method method.now) }
+fn flags_alike(class: &LoadedClass<'_>, wanted: &NamedMethod<'_, '_>) -> Option<u16>
+    requires name { wanted.now.name.now ≡ wanted.now.method.now.name.now }
+    requires descriptor { wanted.now.descriptor.now ≡ wanted.now.method.now.descriptor.now }
+    ensures { result ≡ flags_alike class.now (as_method wanted.now.method.now) }
 {
-    let place = class.method_of(name, descriptor)?;
+    let place = class.method_of(wanted.name, wanted.descriptor)?;
     let found = class.method(place);
     if is_instance(&found) {
         Some(found.access_flags)
@@ -40,17 +35,12 @@ fn flags_alike(
 }
 
 /// Whether the class declares a final instance method with the name and descriptor of another.
-fn declares_final_alike(
-    class: &LoadedClass<'_>,
-    method: &Member<'_>,
-    name: &Text<'_>,
-    descriptor: &Text<'_>,
-) -> bool
-    requires name { name.now ≡ method.now.name.now }
-    requires descriptor { descriptor.now ≡ method.now.descriptor.now }
-    ensures { result ≡ declares_final_alike class.now (as_method method.now) }
+fn declares_final_alike(class: &LoadedClass<'_>, wanted: &NamedMethod<'_, '_>) -> bool
+    requires name { wanted.now.name.now ≡ wanted.now.method.now.name.now }
+    requires descriptor { wanted.now.descriptor.now ≡ wanted.now.method.now.descriptor.now }
+    ensures { result ≡ declares_final_alike class.now (as_method wanted.now.method.now) }
 {
-    let Some(access_flags) = flags_alike(class, method, name, descriptor) else {
+    let Some(access_flags) = flags_alike(class, wanted) else {
         return false;
     };
     access_flags & FINAL != 0
@@ -61,18 +51,17 @@ fn declares_final_alike(
 fn overrides_final_of(
     class: &LoadedClass<'_>,
     number: usize,
-    method: &Member<'_>,
-    name: &Text<'_>,
-    descriptor: &Text<'_>,
+    wanted: &NamedMethod<'_, '_>,
     marks: &mut Marks,
 ) -> bool
     requires number { number < length marks.old }
-    requires name { name.now ≡ method.now.name.now }
-    requires descriptor { descriptor.now ≡ method.now.descriptor.now }
-    ensures broken { result ≡ is_final_overridden_if (get_or marks.old number false) (flags_alike class.now (as_method method.now)) }
-    ensures marks { marks.new ≡ marked_with marks.old number (flags_alike class.now (as_method method.now)) }
+    requires name { wanted.now.name.now ≡ wanted.now.method.now.name.now }
+    requires descriptor { wanted.now.descriptor.now ≡ wanted.now.method.now.descriptor.now }
+    ensures broken { result ≡ is_final_overridden_if (get_or marks.old number false) (flags_alike class.now (as_method wanted.now.method.now)) }
+    ensures marks { marks.new
+        ≡ marked_with marks.old number (flags_alike class.now (as_method wanted.now.method.now)) }
 {
-    let Some(access_flags) = flags_alike(class, method, name, descriptor) else {
+    let Some(access_flags) = flags_alike(class, wanted) else {
         return false;
     };
     if !is_overridden(marks.is_marked(number), access_flags) {
@@ -117,15 +106,13 @@ fn up_to_final<'b>(
     classes: &[LoadedClass<'_>],
     row: &KeyRow<'_>,
     chain: &'b [u16],
-    method: &Member<'_>,
-    name: &Text<'_>,
-    descriptor: &Text<'_>,
+    wanted: &NamedMethod<'_, '_>,
 ) -> &'b [u16]
-    requires name { name.now ≡ method.now.name.now }
-    requires descriptor { descriptor.now ≡ method.now.descriptor.now }
+    requires name { wanted.now.name.now ≡ wanted.now.method.now.name.now }
+    requires descriptor { wanted.now.descriptor.now ≡ wanted.now.method.now.descriptor.now }
     requires chain { AreNumbers classes.now chain.now }
-    requires row { TellsFinalsOf classes.now row.now (as_method method.now) }
-    ensures { IsUpToFinal classes.now (as_method method.now) chain.now result.now }
+    requires row { TellsFinalsOf classes.now row.now (as_method wanted.now.method.now) }
+    ensures { IsUpToFinal classes.now (as_method wanted.now.method.now) chain.now result.now }
 {
     let mut end = marked_end(row, chain, chain.len());
     for _look in 0..MOST_LOOKS {
@@ -133,7 +120,7 @@ fn up_to_final<'b>(
             return &chain[..end];
         }
         let class = &classes[chain[end - 1] as usize];
-        if declares_final_alike(class, method, name, descriptor) {
+        if declares_final_alike(class, wanted) {
             return &chain[..end];
         }
         end = marked_end(row, chain, end - 1);
@@ -255,20 +242,19 @@ fn overrides_final_if(
     is_looked_at: bool,
     class: &LoadedClass<'_>,
     number: usize,
-    method: &Member<'_>,
-    name: &Text<'_>,
-    descriptor: &Text<'_>,
+    wanted: &NamedMethod<'_, '_>,
     marks: &mut Marks,
 ) -> bool
     requires number { number < length marks.old }
-    requires name { name.now ≡ method.now.name.now }
-    requires descriptor { descriptor.now ≡ method.now.descriptor.now }
+    requires name { wanted.now.name.now ≡ wanted.now.method.now.name.now }
+    requires descriptor { wanted.now.descriptor.now ≡ wanted.now.method.now.descriptor.now }
     ensures broken { result
-        ≡ (is_looked_at && is_final_overridden_if (get_or marks.old number false) (flags_alike class.now (as_method method.now))) }
+        ≡ (is_looked_at
+            && is_final_overridden_if (get_or marks.old number false) (flags_alike class.now (as_method wanted.now.method.now))) }
     ensures marks { marks.new
-        ≡ (if is_looked_at then marked_with marks.old number (flags_alike class.now (as_method method.now)) else marks.old) }
+        ≡ (if is_looked_at then marked_with marks.old number (flags_alike class.now (as_method wanted.now.method.now)) else marks.old) }
 {
-    is_looked_at && overrides_final_of(class, number, method, name, descriptor, marks)
+    is_looked_at && overrides_final_of(class, number, wanted, marks)
 }
 
 /// Whether the method of the class overrides a final one of these superclasses, the direct one first. The row is of the method's key.
@@ -280,19 +266,18 @@ fn overrides_final_above(
     asked: &mut Marks,
     of: usize,
     chain: &[u16],
-    method: &Member<'_>,
-    name: &Text<'_>,
-    descriptor: &Text<'_>,
+    wanted: &NamedMethod<'_, '_>,
 ) -> bool
-    requires name { name.now ≡ method.now.name.now }
-    requires descriptor { descriptor.now ≡ method.now.descriptor.now }
+    requires name { wanted.now.name.now ≡ wanted.now.method.now.name.now }
+    requires descriptor { wanted.now.descriptor.now ≡ wanted.now.method.now.descriptor.now }
     requires of { of < length classes.now }
     requires chain { AreNumbers classes.now chain.now }
-    requires row { TellsFinalsOf classes.now row.now (as_method method.now) }
+    requires row { TellsFinalsOf classes.now row.now (as_method wanted.now.method.now) }
     requires packages { AreNumbered classes.now packages.now }
     requires marks { 2 * length classes.now ≤ length marks.old }
     requires asked { 2 * length classes.now ≤ length asked.old }
-    ensures broken { PassesWith classes.now of chain.now (λ l up. overrides_final_above (as_method method.now) (l ∷ []) up) result }
+    ensures broken { PassesWith classes.now of chain.now
+        (λ l up. overrides_final_above (as_method wanted.now.method.now) (l ∷ []) up) result }
     ensures marks { length marks.new ≡ length marks.old }
     ensures asked { length asked.new ≡ length asked.old }
 {
@@ -306,9 +291,7 @@ fn overrides_final_above(
             is_looked_at(row, asked, marks, many, number, *place as usize),
             &classes[*place as usize],
             number,
-            method,
-            name,
-            descriptor,
+            wanted,
             marks,
         ) {
             return true;
@@ -327,29 +310,26 @@ fn overrides_final_if_declared(
     asked: &mut Marks,
     of: usize,
     chain: &[u16],
-    method: &Member<'_>,
-    name: &Text<'_>,
-    descriptor: &Text<'_>,
+    wanted: &NamedMethod<'_, '_>,
 ) -> bool
-    requires name { name.now ≡ method.now.name.now }
-    requires descriptor { descriptor.now ≡ method.now.descriptor.now }
+    requires name { wanted.now.name.now ≡ wanted.now.method.now.name.now }
+    requires descriptor { wanted.now.descriptor.now ≡ wanted.now.method.now.descriptor.now }
     requires of { of < length classes.now }
     requires chain { AreNumbers classes.now chain.now }
-    requires row { TellsFinalsOf classes.now row.now (as_method method.now) }
+    requires row { TellsFinalsOf classes.now row.now (as_method wanted.now.method.now) }
     requires packages { AreNumbered classes.now packages.now }
     requires marks { 2 * length classes.now ≤ length marks.old }
     requires asked { 2 * length classes.now ≤ length asked.old }
-    ensures broken { PassesWith classes.now of chain.now (λ l up. overrides_final_above (as_method method.now) (l ∷ []) up) result }
+    ensures broken { PassesWith classes.now of chain.now
+        (λ l up. overrides_final_above (as_method wanted.now.method.now) (l ∷ []) up) result }
     ensures marks { length marks.new ≡ length marks.old }
     ensures asked { length asked.new ≡ length asked.old }
 {
-    let chain = up_to_final(classes, row, chain, method, name, descriptor);
+    let chain = up_to_final(classes, row, chain, wanted);
     if chain.is_empty() {
         return false;
     }
-    overrides_final_above(
-        classes, packages, row, marks, asked, of, chain, method, name, descriptor,
-    )
+    overrides_final_above(classes, packages, row, marks, asked, of, chain, wanted)
 }
 
 /// Whether the method of the class can override, and overrides a final one of these superclasses.
@@ -361,33 +341,29 @@ pub(crate) fn breaks_final_by(
     asked: &mut Marks,
     of: usize,
     chain: &[u16],
-    method: &Member<'_>,
-    name: &Text<'_>,
-    descriptor: &Text<'_>,
+    wanted: &NamedMethod<'_, '_>,
 ) -> bool
-    requires name { name.now ≡ method.now.name.now }
-    requires descriptor { descriptor.now ≡ method.now.descriptor.now }
+    requires name { wanted.now.name.now ≡ wanted.now.method.now.name.now }
+    requires descriptor { wanted.now.descriptor.now ≡ wanted.now.method.now.descriptor.now }
     requires of { of < length classes.now }
     requires chain { AreNumbers classes.now chain.now }
     requires keys { TellsFinals classes.now keys.now }
     requires packages { AreNumbered classes.now packages.now }
     requires marks { 2 * length classes.now ≤ length marks.old }
     requires asked { 2 * length classes.now ≤ length asked.old }
-    ensures broken { PassesWith classes.now of chain.now (λ l up. breaks_final_by l up (as_method method.now)) result }
+    ensures broken { PassesWith classes.now of chain.now (λ l up. breaks_final_by l up (as_method wanted.now.method.now)) result }
     ensures marks { length marks.new ≡ length marks.old }
     ensures asked { length asked.new ≡ length asked.old }
 {
-    can_override(method)
+    can_override(wanted.method)
         && overrides_final_if_declared(
             classes,
             packages,
-            &row_of(keys, method, name, descriptor),
+            &row_of(keys, wanted),
             marks,
             asked,
             of,
             chain,
-            method,
-            name,
-            descriptor,
+            wanted,
         )
 }

@@ -13,7 +13,7 @@ ghost use Rattle.jv_lookups.specs.Inside.Overridden.{breaks_final_by};
 use crate::above::{breaks_final_by, up_to_marked};
 use crate::keys::FinalKeys;
 use crate::marks::Marks;
-use crate::member::is_final_instance;
+use crate::member::{NamedMethod, is_final_instance};
 use jv_class::one_of_each_name;
 use jv_classes::LoadedClass;
 use std::alloc::{AllocError, Global};
@@ -94,9 +94,11 @@ fn some_overrides_final(
             asked,
             of,
             chain,
-            &class.method(place),
-            &class.method_name(place),
-            &class.method_descriptor(place),
+            &NamedMethod {
+                method: &class.method(place),
+                name: &class.method_name(place),
+                descriptor: &class.method_descriptor(place),
+            },
         ) {
             return true;
         }

@@ -7,7 +7,7 @@ ghost use Rattle.jv_classes.specs.Marks.{AreKept, is_marked};
 ghost use Rattle.jv_lookups.specs.Inside.Keys.{AreMarkedBelow, AreMarkedMore, TellsFinalsOf, is_final_open, is_open};
 ghost use Rattle.jv_lookups.specs.Inside.Steps.{as_method};
 
-use crate::member::{is_final_instance, is_instance, is_overridden};
+use crate::member::{NamedMethod, is_final_instance, is_instance, is_overridden};
 use jv_classes::{KeyMarks, KeyRow, LoadedClass, Member, Text, member_key};
 use std::alloc::{AllocError, Global};
 use std::hash::{BuildHasher, Hasher, RandomState};
@@ -163,15 +163,11 @@ pub fn final_keys(
 }
 
 /// The row of the method's key.
-pub(crate) fn row_of<'k>(
-    keys: &'k FinalKeys,
-    method: &Member<'_>,
-    name: &Text<'_>,
-    descriptor: &Text<'_>,
-) -> KeyRow<'k>
-    requires name { name.now ≡ method.now.name.now }
-    requires descriptor { descriptor.now ≡ method.now.descriptor.now }
-    ensures { (classes : List Loaded) → TellsFinals classes keys.now → TellsFinalsOf classes result (as_method method.now) }
+pub(crate) fn row_of<'k>(keys: &'k FinalKeys, wanted: &NamedMethod<'_, '_>) -> KeyRow<'k>
+    requires name { wanted.now.name.now ≡ wanted.now.method.now.name.now }
+    requires descriptor { wanted.now.descriptor.now ≡ wanted.now.method.now.descriptor.now }
+    ensures { (classes : List Loaded) → TellsFinals classes keys.now → TellsFinalsOf classes result (as_method wanted.now.method.now) }
 {
-    keys.marks.row(member_key(keys.seed, name, descriptor))
+    keys.marks
+        .row(member_key(keys.seed, wanted.name, wanted.descriptor))
 }

@@ -6,7 +6,7 @@ ghost use Rattle.jv_meaning_world.specs.Verdicts.{is_final_instance};
 ghost use Rattle.jv_lookups.specs.Inside.Overridden.{can_override};
 ghost use Rattle.jv_lookups.specs.Inside.Steps.{as_method, is_overridden_if};
 
-use jv_classes::Member;
+use jv_classes::{Member, Text};
 
 const PUBLIC: u16 = 0x0001;
 
@@ -23,6 +23,23 @@ const OPEN: u16 = 0x0005;
 
 // PUBLIC, PRIVATE and PROTECTED
 const SOME_ACCESS: u16 = 0x0007;
+
+/// A method that is looked up in other classes: with the texts of its name and of its descriptor.
+pub(crate) struct NamedMethod<'m, 'a> {
+    pub(crate) method: &'m Member<'a>,
+    pub(crate) name: &'m Text<'a>,
+    pub(crate) descriptor: &'m Text<'a>,
+}
+
+impl Drop for NamedMethod<'_, '_> {
+    fn drop(self) {
+        let NamedMethod {
+            method: _,
+            name: _,
+            descriptor: _,
+        } = self;
+    }
+}
 
 /// Whether it is an instance method, not `<init>`.
 pub(crate) fn is_instance(method: &Member<'_>) -> bool

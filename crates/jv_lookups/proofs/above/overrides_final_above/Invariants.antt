@@ -10,8 +10,8 @@ use Rattle.jv_lookups.proofs.above.overrides_final_above.Given as goal
 
 abbrev pub invariant-loop-place : goal.invariant-loop-place
 invariant-loop-place l = record {
-  walked : IsWalked l.classes l.packages l.row l.marks (as_method l.method) (drop l.place-index l.chain)
-      (passes (λ c. overrides_final_above (as_method l.method) (c ∷ []) (classes_at l.classes l.chain)) (slice_get l.classes l.of));
+  walked : IsWalked l.classes l.packages l.row l.marks (as_method l.wanted.method.now) (drop l.place-index l.chain)
+      (passes (λ c. overrides_final_above (as_method l.wanted.method.now) (c ∷ []) (classes_at l.classes l.chain)) (slice_get l.classes l.of));
   many : length l.marks ≡ length l.fn.marks;
   asked : AreAsked l.packages l.row (length l.classes) l.asked (drop l.place-index l.chain);
 }

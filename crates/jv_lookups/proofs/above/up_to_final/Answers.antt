@@ -12,7 +12,7 @@ loop-look-preserved c =
     let before : c.marked_end-end-in-loop-look.result ≤ last = c.marked_end-end-in-loop-look.ensures.within in
     record {
       within = omega (arith, before, next, inside);
-      none_behind = none_behind_more c.args.classes.now c.args.row.now (as_method c.args.method.now) c.args.chain.now c.loop-look.end last
+      none_behind = none_behind_more c.args.classes.now c.args.row.now (as_method c.args.wanted.now.method.now) c.args.chain.now c.loop-look.end last
           c.marked_end-end-in-loop-look.result c.index-classes-chain.result
           c.requires.row c.requires.chain next inside c.loop-look.invariant.none_behind c.index-classes-chain.is c.if-declares_final_alike.ensures c.marked_end-end-in-loop-look.ensures.none_behind;
     }
