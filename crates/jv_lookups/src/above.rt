@@ -57,7 +57,8 @@ fn overrides_final_of(
     requires number { number < length marks.old }
     requires name { wanted.now.name.now ≡ wanted.now.method.now.name.now }
     requires descriptor { wanted.now.descriptor.now ≡ wanted.now.method.now.descriptor.now }
-    ensures broken { result ≡ is_final_overridden_if (get_or marks.old number false) (flags_alike class.now (as_method wanted.now.method.now)) }
+    ensures broken { result
+        ≡ is_final_overridden_if (get_or marks.old number false) (flags_alike class.now (as_method wanted.now.method.now)) }
     ensures marks { marks.new
         ≡ marked_with marks.old number (flags_alike class.now (as_method wanted.now.method.now)) }
 {
