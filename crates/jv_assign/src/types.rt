@@ -5,7 +5,7 @@ ghost use Rattle.jv_stackmap.specs.declared.verification.VerificationTypeOf.TheV
 ghost use Rattle.jv_text.specs.Seen.{seen_field_type};
 ghost use Rattle.jv_meaning_world.specs.World.{World};
 ghost use Rattle.jv_meaning_world.specs.Flow.{flows};
-ghost use Rattle.jv_assign.specs.Seen.{seen_type};
+ghost use Rattle.jv_stackmap.specs.Seen.{seen_type};
 
 use crate::arrays::{component_flows, is_above_arrays};
 use crate::classes::class_flows;

@@ -10,9 +10,8 @@ ghost use Rattle.jv_meaning_world.specs.declared.verdict.LoadVerdict.{LoadVerdic
 ghost use Rattle.jv_program_explain.specs.Frames.{AreFramesShown, ShowsFramesOf, both_text, frames_text, some_text};
 ghost use Rattle.jv_program_explain.specs.Inside.Numbered.{IsJudgedAt, StandsAt, is_on_methods};
 ghost use Rattle.jv_program_explain.specs.Inside.Broken.{is_at_instruction};
-ghost use Rattle.jv_shown.specs.Frames.{shown_type};
 ghost use Rattle.jv_shown.specs.Instructions.{first_of};
-ghost use Rattle.jv_verify.specs.Before.{frame_by, seen_frame};
+ghost use Rattle.jv_verify.specs.Before.{seen_frame};
 
 use jv_loader::Classes;
 use jv_meaning_typing::{Verdict, VerifyFault, VerifyRule};
@@ -37,7 +36,7 @@ struct ShownBoth<'f, 'a> {
 }
 
 impl fmt::Display for ShownSome<'_, '_> {
-    ghost output = { λ shown. Some (some_text shown.whose.now (option_map (λ f. frame_by shown_type f.now) shown.frame)) };
+    ghost output = { λ shown. Some (some_text shown.whose.now (option_map (λ f. seen_frame f.now) shown.frame)) };
 
     fn fmt<W: fmt::Write>(&self, f: &mut fmt::Formatter<W>) -> fmt::Result {
         match self.frame {
@@ -56,8 +55,8 @@ impl fmt::Display for ShownSome<'_, '_> {
 }
 
 impl fmt::Display for ShownBoth<'_, '_> {
-    ghost output = { λ both. Some (both_text (option_map (λ f. frame_by shown_type f.now) both.falling)
-        (option_map (λ f. frame_by shown_type f.now) both.map)) };
+    ghost output = { λ both. Some (both_text (option_map (λ f. seen_frame f.now) both.falling)
+        (option_map (λ f. seen_frame f.now) both.map)) };
 
     fn fmt<W: fmt::Write>(&self, f: &mut fmt::Formatter<W>) -> fmt::Result {
         let falling = ShownSome {

@@ -1,13 +1,11 @@
 -- A frame as text (own): the types of its local variables and of its stack (JVMS 4.10.1.2, 4.10.1.4).
 use Rattle.std.specs.Prelude.{ℕ, zero, suc, Bool, true, false, List, [], ◌∷◌, ◌++◌, codes}
-use Rattle.std.specs.Borrow.{Bor}
 use Rattle.std.specs.Fmt.{decimal}
 use Rattle.std.specs.List.{flat_map}
 use Rattle.jv_text.specs.declared.descriptor.Base.{Base}
 use Rattle.jv_text.specs.declared.descriptor.Base.TheVariants as bases
 use Rattle.jv_text.specs.declared.descriptor.Element.{Element}
 use Rattle.jv_text.specs.declared.descriptor.Element.TheVariants as elements
-use Rattle.jv_text.specs.Seen.{seen_field_type}
 use Rattle.jv_stackmap.specs.declared.verification.VerificationTypeOf.{VerificationTypeOf}
 use Rattle.jv_stackmap.specs.declared.verification.VerificationTypeOf.TheVariants as types
 use Rattle.jv_stackmap.specs.Frames.{Frame}
@@ -68,15 +66,3 @@ flag_line whose false = []
 abbrev pub frame_text : (whose : List ℕ) → Frame → List ℕ
 frame_text whose f =
     types_line whose (codes "locals") f.locals ++ types_line whose (codes "stack") f.stack ++ flag_line whose f.flag_this_uninit
-
--- ---- the types that the code refers to
-
-abbrev pub shown_type : VerificationTypeOf (Bor (List ℕ)) → FrameType
-shown_type types.Top = types.Top
-shown_type types.Int = types.Int
-shown_type types.Long = types.Long
-shown_type types.Null = types.Null
-shown_type types.UninitializedThis = types.UninitializedThis
-shown_type (types.Class name) = types.Class name.now
-shown_type (types.Array components) = types.Array (seen_field_type components)
-shown_type (types.Uninitialized offset) = types.Uninitialized offset

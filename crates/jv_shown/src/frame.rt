@@ -3,7 +3,8 @@
 ghost use Rattle.std.specs.Prelude.{◌++◌, Some, codes, map};
 ghost use Rattle.std.specs.List.{flat_map};
 ghost use Rattle.jv_text.specs.Seen.{seen_element};
-ghost use Rattle.jv_shown.specs.Frames.{base_name, brackets_text, element_text, flag_line, frame_text, next_text, shown_type, type_text, types_line, types_text};
+ghost use Rattle.jv_stackmap.specs.Seen.{seen_type};
+ghost use Rattle.jv_shown.specs.Frames.{base_name, brackets_text, element_text, flag_line, frame_text, next_text, type_text, types_line, types_text};
 
 use jv_program_base::Escaped;
 use jv_stackmap::VerificationTypeOf;
@@ -109,7 +110,7 @@ impl fmt::Display for ShownBrackets {
 }
 
 impl fmt::Display for ShownType<'_> {
-    ghost output = { λ shown. Some (type_text (shown_type shown.0)) };
+    ghost output = { λ shown. Some (type_text (seen_type shown.0)) };
 
     fn fmt<W: fmt::Write>(&self, f: &mut fmt::Formatter<W>) -> fmt::Result {
         match self.0 {
@@ -135,7 +136,7 @@ impl fmt::Display for ShownType<'_> {
 }
 
 impl fmt::Display for ShownMore<'_, '_> {
-    ghost output = { λ more. Some (flat_map next_text (map shown_type more.0.now)) };
+    ghost output = { λ more. Some (flat_map next_text (map seen_type more.0.now)) };
 
     fn fmt<W: fmt::Write>(&self, f: &mut fmt::Formatter<W>) -> fmt::Result {
         let types = self.0;
@@ -148,7 +149,7 @@ impl fmt::Display for ShownMore<'_, '_> {
 }
 
 impl fmt::Display for ShownTypes<'_, '_> {
-    ghost output = { λ types. Some (types_text (map shown_type types.0.now)) };
+    ghost output = { λ types. Some (types_text (map seen_type types.0.now)) };
 
     fn fmt<W: fmt::Write>(&self, f: &mut fmt::Formatter<W>) -> fmt::Result {
         match self.0.split_first() {
@@ -163,7 +164,7 @@ impl fmt::Display for ShownTypes<'_, '_> {
 }
 
 impl fmt::Display for ShownLine<'_, '_> {
-    ghost output = { λ line. Some (types_line line.whose.now line.word.now (map shown_type line.types.now)) };
+    ghost output = { λ line. Some (types_line line.whose.now line.word.now (map seen_type line.types.now)) };
 
     fn fmt<W: fmt::Write>(&self, f: &mut fmt::Formatter<W>) -> fmt::Result {
         let whose = self.whose;
@@ -188,8 +189,8 @@ impl fmt::Display for ShownFlag<'_> {
 
 impl fmt::Display for ShownFrame<'_, '_> {
     ghost output = { λ shown. Some (frame_text shown.whose.now (record {
-      locals = map shown_type shown.locals.now;
-      stack = map shown_type shown.stack.now;
+      locals = map seen_type shown.locals.now;
+      stack = map seen_type shown.stack.now;
       flag_this_uninit = shown.flag;
     })) };
 

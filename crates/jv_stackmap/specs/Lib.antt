@@ -1,5 +1,6 @@
 pub mod Bytes
 pub mod Types
+pub mod Seen
 pub mod Frames
 pub mod Initial
 pub mod Entries

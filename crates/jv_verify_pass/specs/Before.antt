@@ -1,11 +1,7 @@
 -- The frames before an instruction (JVMS 4.10.1.6): the one that falls into it, and that of the stack map, with names for numbers.
 use Rattle.std.specs.Prelude.{◌≡◌, ℕ, List, map, Option, Some, None, IsSome}
-use Rattle.std.specs.Borrow.{Bor}
 use Rattle.std.specs.Option.{option_map}
-use Rattle.jv_text.specs.Seen.{seen_field_type}
-use Rattle.jv_stackmap.specs.declared.verification.VerificationTypeOf.{VerificationTypeOf}
-use Rattle.jv_stackmap.specs.declared.verification.VerificationTypeOf.TheVariants as types
-use Rattle.jv_stackmap.specs.Types.{FrameType}
+use Rattle.jv_stackmap.specs.Seen.{seen_type}
 use Rattle.jv_stackmap.specs.Frames.{Frame, PlacedFrame}
 use Rattle.jv_meaning_typing.specs.Environment.{Environment, instruction_at}
 use Rattle.jv_meaning_typing.specs.Typing.{Assignment, FallsInto, IsTypingBelow, frame_at}
@@ -33,26 +29,12 @@ pub record StandBefore (env : Environment) (maps : List PlacedFrame) (pc : ℕ) 
 
 -- ---- with names for numbers
 
-abbrev pub seen_type : VerificationTypeOf (Bor (List ℕ)) → FrameType
-seen_type types.Top = types.Top
-seen_type types.Int = types.Int
-seen_type types.Long = types.Long
-seen_type types.Null = types.Null
-seen_type types.UninitializedThis = types.UninitializedThis
-seen_type (types.Class name) = types.Class name.now
-seen_type (types.Array components) = types.Array (seen_field_type components)
-seen_type (types.Uninitialized offset) = types.Uninitialized offset
-
--- by what its types stand for
-abbrev pub frame_by : (VerificationTypeOf (Bor (List ℕ)) → FrameType) → NamedFrame → Frame
-frame_by type_of f = record {
-  locals = map type_of f.locals.items;
-  stack = map type_of f.stack.items;
+abbrev pub seen_frame : NamedFrame → Frame
+seen_frame f = record {
+  locals = map seen_type f.locals.items;
+  stack = map seen_type f.stack.items;
   flag_this_uninit = f.flag_this_uninit;
 }
-
-abbrev pub seen_frame : NamedFrame → Frame
-seen_frame f = frame_by seen_type f
 
 -- these frames stand before the instruction at an offset
 abbrev pub AreBefore : Environment → List PlacedFrame → ℕ → FramesBefore → Type 0

@@ -5,7 +5,8 @@ ghost use Rattle.std.specs.Option.{option_map};
 ghost use Rattle.jv_text.specs.Seen.{seen_element};
 ghost use Rattle.jv_verify_types.specs.Numbered.{frame_of};
 ghost use Rattle.jv_verify_types.specs.Typed.{typed, typed_all, typed_element};
-ghost use Rattle.jv_verify_pass.specs.Before.{seen_frame, seen_type};
+ghost use Rattle.jv_stackmap.specs.Seen.{seen_type};
+ghost use Rattle.jv_verify_pass.specs.Before.{seen_frame};
 
 use jv_stackmap::VerificationTypeOf;
 use jv_text::{Element, FieldTypeOf};

@@ -6,7 +6,7 @@ ghost use Rattle.jv_text.specs.Descriptor.{base_letter};
 ghost use Rattle.jv_text.specs.Seen.{seen_field_type};
 ghost use Rattle.jv_meaning_world.specs.Flow.{class_flows, flows, same_base};
 ghost use Rattle.jv_meaning_world.specs.FrameFlow.{item_flows};
-ghost use Rattle.jv_assign.specs.Seen.{seen_type};
+ghost use Rattle.jv_stackmap.specs.Seen.{seen_type};
 ghost use Rattle.jv_verify_types.specs.Typed.{name_at, typed_field, typed};
 ghost use Rattle.jv_verify_types.specs.Inside.Made.{is_object_of};
 

@@ -1,6 +1,6 @@
 use Rattle.std.proofs.Common.{◌∙◌, sym, ap, rules}
 use Rattle.jv_meaning_world.specs.Flow.{flows}
-use Rattle.jv_assign.specs.Seen.{seen_type}
+use Rattle.jv_stackmap.specs.Seen.{seen_type}
 use Rattle.jv_assign.proofs.types.flows.Goals as goal
 
 pub returns-in-Uninitialized : goal.returns-in-Uninitialized

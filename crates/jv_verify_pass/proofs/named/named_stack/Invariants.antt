@@ -1,6 +1,6 @@
 use Rattle.std.proofs.Common.{◌≡◌, map, take}
 use Rattle.jv_verify_types.specs.Typed.{typed_all}
-use Rattle.jv_verify_pass.specs.Before.{seen_type}
+use Rattle.jv_stackmap.specs.Seen.{seen_type}
 use Rattle.jv_verify_pass.proofs.named.named_stack.Given as goal
 
 abbrev pub invariant-loop-depth : goal.invariant-loop-depth
