@@ -251,7 +251,7 @@ fn overrides_final_if(
     requires descriptor { wanted.now.descriptor.now ≡ wanted.now.method.now.descriptor.now }
     ensures broken { result
         ≡ (is_looked_at
-            && is_final_overridden_if (get_or marks.old number false) (flags_alike class.now (as_method wanted.now.method.now))) }
+        && is_final_overridden_if (get_or marks.old number false) (flags_alike class.now (as_method wanted.now.method.now))) }
     ensures marks { marks.new
         ≡ (if is_looked_at then marked_with marks.old number (flags_alike class.now (as_method wanted.now.method.now)) else marks.old) }
 {
