@@ -14,3 +14,4 @@ pub mod Shown
 pub mod Elsewhere
 pub mod Begun
 mod OneStep
+pub mod PlaceShown

@@ -78,7 +78,7 @@ module _ (world : World) (place : Option Place) (verified : List Bool) (program 
             (sym (append-nil addresses))
             (record {
               frames = f;
-              control = record { states = c.states; throws = c.throws; last = c.last; main = c.main; end = tt };
+              control = record { states = c.states; throws = c.throws; last = c.last; place = c.place; main = c.main; end = tt };
               memory = h.stands.memory;
             });
         grows = grows_not addresses blocks;

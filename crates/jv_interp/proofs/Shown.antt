@@ -2,7 +2,7 @@
 use Rattle.std.proofs.Common.{◌≡◌, ℕ, List, Option, ◌∙◌, sym, ap, refl}
 use Rattle.jv_meaning_typing.specs.declared.verdict.Verdict.{Verdict}
 use Rattle.jv_meaning_world.specs.World.{World}
-use Rattle.jv_meaning_machine.specs.State.{End as EndOfNames}
+use Rattle.jv_meaning_machine.specs.State.{ThrowPlace, End as EndOfNames}
 use Rattle.jv_meaning_machine.specs.State.End.{Running, Returned, Threw, NoMain}
 use Rattle.jv_interp_control.specs.declared.control.End.{End}
 use Rattle.jv_interp_control.specs.declared.control.End.TheVariants as ends
@@ -17,32 +17,34 @@ use Rattle.jv_interp.specs.Standing.{GuestStands}
 pub shows :
     (g : GuestFiles) (b : Budget) (feeds : List Feed) (n : ℕ) (addresses : List ℕ) (guest : Guest) (blocks : Blocks)
     (h : GuestStands g b feeds n addresses guest blocks) (o : Observed) → o.verdicts ≡ guest.judged.verdicts → o.steps ≡ guest.steps
-    → o.output ≡ guest.held.output.items → o.throws ≡ guest.control.throws → o.last ≡ h.state.control.last → o.end ≡ h.state.control.end
-    → Shows g b feeds n o
-shows g b feeds n addresses guest blocks h o verdicts steps output throws last end = record {
+    → o.output ≡ guest.held.output.items → o.throws ≡ guest.control.throws → o.last ≡ h.state.control.last
+    → o.place ≡ h.state.control.place → o.end ≡ h.state.control.end → Shows g b feeds n o
+shows g b feeds n addresses guest blocks h o verdicts steps output throws last place end = record {
   judged = h.judged;
   right = h.right;
   state = h.state;
   ran = h.ran;
   shown =
-      all (verdicts ∙ sym h.verdicts_are) (steps ∙ h.steps_are) (output ∙ sym h.stands.memory.output) (throws ∙ sym h.stands.control.throws) last end;
+      all (verdicts ∙ sym h.verdicts_are) (steps ∙ h.steps_are) (output ∙ sym h.stands.memory.output) (throws ∙ sym h.stands.control.throws) last place end;
 }
   where
     all :
         o.verdicts ≡ h.judged.verdicts → o.steps ≡ n → o.output ≡ h.state.memory.output → o.throws ≡ h.state.control.throws
-        → o.last ≡ h.state.control.last → o.end ≡ h.state.control.end → o ≡ observation h.judged.verdicts n h.state
-    all v s w t l e =
+        → o.last ≡ h.state.control.last → o.place ≡ h.state.control.place → o.end ≡ h.state.control.end → o ≡ observation h.judged.verdicts n h.state
+    all v s w t l p e =
         ap (λ (x : List Verdict). record o { verdicts = x }) v ∙
         ap (λ (x : ℕ). record (observation h.judged.verdicts o.steps h.state) {
           output = o.output;
           throws = o.throws;
           last = o.last;
+          place = o.place;
           end = o.end;
           steps = x;
         }) s
-        ∙ ap (λ (x : List ℕ). record (observation h.judged.verdicts n h.state) { output = x; throws = o.throws; last = o.last; end = o.end }) w
-        ∙ ap (λ (x : ℕ). record (observation h.judged.verdicts n h.state) { throws = x; last = o.last; end = o.end }) t
-        ∙ ap (λ (x : Option (List ℕ)). record (observation h.judged.verdicts n h.state) { last = x; end = o.end }) l
+        ∙ ap (λ (x : List ℕ). record (observation h.judged.verdicts n h.state) { output = x; throws = o.throws; last = o.last; place = o.place; end = o.end }) w
+        ∙ ap (λ (x : ℕ). record (observation h.judged.verdicts n h.state) { throws = x; last = o.last; place = o.place; end = o.end }) t
+        ∙ ap (λ (x : Option (List ℕ)). record (observation h.judged.verdicts n h.state) { last = x; place = o.place; end = o.end }) l
+        ∙ ap (λ (x : Option ThrowPlace). record (observation h.judged.verdicts n h.state) { place = x; end = o.end }) p
         ∙ ap (λ (x : EndOfNames). record (observation h.judged.verdicts n h.state) { end = x }) e
 
 -- ---- whether it takes steps

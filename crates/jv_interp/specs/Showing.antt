@@ -2,7 +2,7 @@
 use Rattle.std.specs.Prelude.{◌≡◌, ◌↔◌, ℕ, suc, ◌+◌, Bool, true, List, Ok}
 use Rattle.std.specs.Option.{option_map}
 use Rattle.std.specs.Borrow.{Bor}
-use Rattle.jv_meaning_machine.specs.State.{State, End as EndOfNames}
+use Rattle.jv_meaning_machine.specs.State.{State, ThrowPlace as ThrowPlaceOfNames, End as EndOfNames}
 use Rattle.jv_meaning_machine.specs.State.End.{Running, Returned, Threw, NoMain}
 use Rattle.jv_meaning_machine.specs.Start.{Budget}
 use Rattle.jv_meaning_machine.specs.Alone.{GuestFiles, Feed, alone}
@@ -10,6 +10,7 @@ use Rattle.jv_meaning_machine.specs.Observation.{Observed, Shows}
 use Rattle.jv_interp_heap.specs.ObjectsInBlocks.{Blocks}
 use Rattle.jv_interp.specs.declared.guest.Guest.{Guest}
 use Rattle.jv_interp.specs.declared.observation.Observation.{Observation}
+use Rattle.jv_interp.specs.declared.observation.ThrowPlace.{ThrowPlace}
 use Rattle.jv_interp.specs.declared.observation.GuestEnd.{GuestEnd}
 use Rattle.jv_interp.specs.declared.observation.GuestEnd.TheVariants as ends
 use Rattle.jv_interp.specs.Standing.{GuestStands}
@@ -23,6 +24,9 @@ seen_end ends.NoMain = NoMain
 abbrev pub bytes_seen : Bor (List ℕ) → List ℕ
 bytes_seen bytes = bytes.now
 
+abbrev pub seen_place : ThrowPlace → ThrowPlaceOfNames
+seen_place p = record { class = p.class.now; method = p.method.now; descriptor = p.descriptor.now; offset = p.offset }
+
 abbrev pub observed_of : Observation → Observed
 observed_of o = record {
   verdicts = o.verdicts.now;
@@ -30,6 +34,7 @@ observed_of o = record {
   output = o.output.now;
   throws = o.throws;
   last = option_map bytes_seen o.last;
+  place = option_map seen_place o.place;
   end = seen_end o.end;
 }
 

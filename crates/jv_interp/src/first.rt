@@ -59,6 +59,7 @@ fn first_control(
         states,
         throws: 0,
         last: None,
+        place: None,
         main: number_of(methods, place),
         end: End::Running,
     })

@@ -25,6 +25,6 @@ pub use counts::classes_are_few;
 pub use guest::Guest;
 pub use jv_interp_steps::Turn;
 pub use main_method::main_number;
-pub use observation::{GuestEnd, Observation};
+pub use observation::{GuestEnd, Observation, ThrowPlace};
 pub use room::start_memory;
 pub use states::start_states;

@@ -26,7 +26,7 @@ use Rattle.jv_interp_held.specs.ClassStates.{kept_state, AreClassStates}
 use Rattle.jv_interp_heap.specs.SystemNumbers.{SystemHasNumbers}
 use Rattle.jv_interp_control.specs.declared.frames.Frames.{Frames}
 use Rattle.jv_interp_control.specs.declared.control.Control.{Control}
-use Rattle.jv_interp_control.specs.ControlStands.{IsClassOf, EndStands}
+use Rattle.jv_interp_control.specs.ControlStands.{IsClassOf, PlaceStands, EndStands}
 use Rattle.std.specs.Option.{option_and_then}
 use Rattle.jv_interp_control.specs.Standing.{kept, StateStands, Moves, Reaches}
 use Rattle.jv_interp_control.specs.Moves.{Raising, Beginning}
@@ -189,6 +189,7 @@ module _ (world : World) (class : ℕ) (verified : List Bool) (program : Program
                 states = set;
                 throws = c.throws ∙ sym (ap (λ (k : Control). k.throws) same);
                 last = subst (λ (k : Control). IsClassOf program.world s.control.last k.last) (sym same) c.last;
+                place = subst (λ (k : Control). PlaceStands program.world s.control.place k.place) (sym same) c.place;
                 main = subst (λ (k : Control). option_and_then (slice_get (methods_of program.world)) k.main ≡ main_method program.world s.control.main) (sym same) c.main;
                 end = subst (λ (k : Control). EndStands program.world s.control.end k.end) (sym same) c.end;
               };

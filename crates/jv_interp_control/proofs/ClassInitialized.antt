@@ -56,6 +56,7 @@ module _ (world : World) (class : ℕ) (frames : Frames) (kept : Control) (progr
               states = states;
               throws = h.control_stands.throws;
               last = h.control_stands.last;
+              place = h.control_stands.place;
               main = h.control_stands.main;
               end = h.control_stands.end;
             });

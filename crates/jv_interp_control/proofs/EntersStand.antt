@@ -59,7 +59,7 @@ pub control_words :
     (world : World) (control : ControlOfNames) (control_kept : Control) (words : ℕ) → ControlStands world control control_kept
     → ControlStands world (record control { words = words }) control_kept
 control_words world control control_kept words h =
-    record { states = h.states; throws = h.throws; last = h.last; main = h.main; end = h.end }
+    record { states = h.states; throws = h.throws; last = h.last; place = h.place; main = h.main; end = h.end }
 
 -- ---- a method is entered
 

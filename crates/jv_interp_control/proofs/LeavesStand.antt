@@ -256,6 +256,6 @@ module _ (methods : Methods) (given top count : ℕ) (frames : Frames) (kept : C
           few = let a = h.stand.few in omega (arith, a, size);
           records_fit = let a = h.stand.records_fit in omega (arith, a, size, capacity);
         };
-        control_stands = record { states = c.states; throws = c.throws; last = c.last; main = c.main; end = tt };
+        control_stands = record { states = c.states; throws = c.throws; last = c.last; place = c.place; main = c.main; end = tt };
         same_memory = refl;
       })

@@ -2,6 +2,7 @@ pub mod Counted
 pub mod Entered
 pub mod MemoryJoined
 pub mod Stacked
+pub mod PlacesStand
 pub mod StatesSet
 pub mod BodyStands
 pub mod CodeThere

@@ -44,11 +44,9 @@ stand_grown program addresses more fs frames left h = record {
 }
 
 all_passed-throws :
-    (fs : List Frame) (throws : ℕ) (last : Option (List ℕ)) (control : ControlOfNames)
-    → all_passed fs (with_throws throws last control) ≡ with_throws throws last (all_passed fs control)
-all_passed-throws [] throws last control = refl
-all_passed-throws (f ∷ fs) throws last control =
-    ap (all_passed fs) (passed-throws f throws last control) ∙ all_passed-throws fs throws last (passed f control)
+    (fs : List Frame) (other control : ControlOfNames) → all_passed fs (with_throws other control) ≡ with_throws other (all_passed fs control)
+all_passed-throws [] other control = refl
+all_passed-throws (f ∷ fs) other control = ap (all_passed fs) (passed-throws f other control) ∙ all_passed-throws fs other (passed f control)
 
 pub same_state : (a b : State) → ◌≡◌ {A = OrFault State} (Ok a) (Ok b) → a ≡ b
 same_state a b e = cc
@@ -91,11 +89,11 @@ module _ (world : World) (thrown : Thrown) (program : Program) (texts : List (Li
       within = l.within;
     }
 
-    control_now : l.walked.now.control ≡ with_throws l.walked.now.control.throws l.walked.now.control.last passed_control
+    control_now : l.walked.now.control ≡ with_throws l.walked.now.control passed_control
     control_now =
         l.walked.control_is
-        ∙ ap (λ (c : ControlOfNames). with_throws l.walked.now.control.throws l.walked.now.control.last c)
-        (ap (all_passed (take landing.passed fs)) h.control_is ∙ all_passed-throws (take landing.passed fs) t.control.throws t.control.last control)
+        ∙ ap (λ (c : ControlOfNames). with_throws l.walked.now.control c)
+        (ap (all_passed (take landing.passed fs)) h.control_is ∙ all_passed-throws (take landing.passed fs) t.control control)
         ∙ refl
 
     last_stands : (last : Option (List ℕ)) → last ≡ Some l.walked.now.class → IsClassOf program.world last (Some landing.thrown.class)
@@ -104,14 +102,20 @@ module _ (world : World) (thrown : Thrown) (program : Program) (texts : List (Li
         let same : name ≡ l.walked.now.class = cc in
         subst (λ (n : List ℕ). Rattle.jv_interp_heap.specs.ObjectsInBlocks.HasNumber program.world n landing.thrown.class) (sym same) l.walked.stands.class
 
+    -- what is kept of the throw
+    abbrev thrown_kept : Control → Control
+    thrown_kept passed_kept =
+        record passed_kept { throws = landing.thrown.throws; last = Some landing.thrown.class; place = landing.thrown.place }
+
     thrown_control : (passed_kept : Control) → ControlStands program.world passed_control passed_kept
-        → ControlStands program.world l.walked.now.control (record passed_kept { throws = landing.thrown.throws; last = Some landing.thrown.class })
+        → ControlStands program.world l.walked.now.control (thrown_kept passed_kept)
     thrown_control passed_kept c =
-        subst (λ (n : ControlOfNames). ControlStands program.world n (record passed_kept { throws = landing.thrown.throws; last = Some landing.thrown.class })) (sym control_now)
+        subst (λ (n : ControlOfNames). ControlStands program.world n (thrown_kept passed_kept)) (sym control_now)
         (record {
           states = c.states;
           throws = l.walked.stands.throws;
           last = last_stands l.walked.now.control.last l.walked.stands.last;
+          place = l.walked.stands.place;
           main = c.main;
           end = c.end;
         })
@@ -125,21 +129,21 @@ module _ (world : World) (thrown : Thrown) (program : Program) (texts : List (Li
         (frames_after : Frames) (passed_kept : Control) → landing.handler ≡ None
         → PassedAll landing.passed program grown fs control frames_after passed_kept
         → Reaches program texts goes_to addresses (kept frames before_control held blocks)
-        (kept frames_after (record passed_kept { throws = landing.thrown.throws; last = Some landing.thrown.class; end = ends.Threw landing.thrown.class }) held_after blocks_after)
+        (kept frames_after (record (thrown_kept passed_kept) { end = ends.Threw landing.thrown.class }) held_after blocks_after)
     out_of_all frames_after passed_kept none p =
         let now = l.walked.now in
         let rest : drop landing.passed fs ≡ [] = subst (λ (o : Option ℕ). StopsAt program.world now.class (drop landing.passed fs) o) none l.stops in
         let goes = same_state (state_of now.memory [] (record now.control { end = Threw now.class })) goes_to (sym (ap (unwound program.world now) rest) ∙ l.walked.goes) in
         let c = thrown_control passed_kept p.control_stands in
         subst (λ (s : State). Reaches program texts s addresses (kept frames before_control held blocks)
-        (kept frames_after (record passed_kept { throws = landing.thrown.throws; last = Some landing.thrown.class; end = ends.Threw landing.thrown.class }) held_after blocks_after)) goes
+        (kept frames_after (record (thrown_kept passed_kept) { end = ends.Threw landing.thrown.class }) held_after blocks_after)) goes
         (record {
           more = l.walked.more;
           stands = record {
             frames =
                 subst (λ (n : ℕ). FramesStand program grown [] frames_after n) (sym words_now)
                 (subst (λ (xs : List Frame). FramesStand program grown xs frames_after passed_control.words) rest p.stand);
-            control = record { states = c.states; throws = c.throws; last = c.last; main = c.main; end = l.walked.stands.class };
+            control = record { states = c.states; throws = c.throws; last = c.last; place = c.place; main = c.main; end = l.walked.stands.class };
             memory = l.walked.stands.memory;
           };
           grows = l.walked.grows;
@@ -189,10 +193,10 @@ module _ (world : World) (thrown : Thrown) (program : Program) (texts : List (Li
         → PassedAll landing.passed program grown fs control frames_passed passed_kept → (x : Caught pc frames_passed methods)
         → FramesStand program grown (at_handler x.frame pc l.walked.now.object ∷ x.below) frames_after passed_control.words
         → Reaches program texts goes_to addresses (kept frames before_control held blocks)
-        (kept frames_after (record passed_kept { throws = landing.thrown.throws; last = Some landing.thrown.class }) held_after blocks_after)
+        (kept frames_after (thrown_kept passed_kept) held_after blocks_after)
     to_handler pc frames_passed frames_after passed_kept methods p x stand =
         subst (λ (s : State). Reaches program texts s addresses (kept frames before_control held blocks)
-        (kept frames_after (record passed_kept { throws = landing.thrown.throws; last = Some landing.thrown.class }) held_after blocks_after)) x.goes
+        (kept frames_after (thrown_kept passed_kept) held_after blocks_after)) x.goes
         (record {
           more = l.walked.more;
           stands = record {

@@ -9,7 +9,7 @@ use Rattle.jv_meaning_world.specs.World.{World}
 use Rattle.jv_meaning_machine.specs.Frames.{MethodFrame, Frame}
 use Rattle.jv_meaning_machine.specs.Frames.Frame.{Runs, Initializes}
 use Rattle.jv_meaning_machine.specs.State.{Program, Control, State}
-use Rattle.jv_meaning_machine.specs.Throws.{Thrown, handler_for, caught, passed_method, passed_initialization, replacement, unwound}
+use Rattle.jv_meaning_machine.specs.Throws.{Thrown, handler_for, caught, passed_method, passed_initialization, place_in, replacement, unwound}
 use Rattle.jv_interp_words.specs.declared.records.MethodRecord.{MethodRecord}
 use Rattle.jv_interp_words.specs.declared.records.InitializationRecord.{InitializationRecord}
 use Rattle.jv_interp_words.specs.declared.records.FrameRecord.{FrameRecord}
@@ -18,11 +18,14 @@ use Rattle.jv_interp_words.proofs.Gave.{bound_gave}
 use Rattle.jv_interp_heap.specs.ObjectsInBlocks.{Blocks}
 use Rattle.jv_interp_held.specs.declared.held.Held.{Held}
 use Rattle.jv_interp_control.specs.declared.throwing.Thrown.{Thrown as ThrownInWords}
+use Rattle.jv_interp_control.specs.ControlStands.{PlaceStands}
+use Rattle.jv_interp_control.specs.Inside.Places.{record_place}
 use Rattle.jv_interp_control.specs.Inside.Handling.{pc_of, Handling}
 use Rattle.jv_interp_control.specs.Inside.Passing.{passed, all_passed}
 use Rattle.jv_interp_control.specs.Inside.Walking.{with_throws, ThrownStands, Replacing, Replaced, Walking, Walked, Landed}
 use Rattle.jv_interp_control.proofs.GrownTwice.{grows_twice}
 use Rattle.jv_interp_control.proofs.MemoryJoined.{grows_not}
+use Rattle.jv_interp_control.proofs.PlacesStand.{places_stand}
 use Rattle.jv_interp_control.proofs.Stacked.{MethodAt, InitializationAt, method_at, initialization_at, same_count}
 
 -- the record that is looked at
@@ -38,10 +41,9 @@ all_passed-more (f ∷ frames) frame control = all_passed-more frames frame (pas
 
 -- what passes a frame keeps its throws
 pub passed-throws :
-    (frame : Frame) (throws : ℕ) (last : Option (List ℕ)) (control : Control)
-    → passed frame (with_throws throws last control) ≡ with_throws throws last (passed frame control)
-passed-throws (Runs frame) throws last control = refl
-passed-throws (Initializes frame) throws last control = refl
+    (frame : Frame) (other control : Control) → passed frame (with_throws other control) ≡ with_throws other (passed frame control)
+passed-throws (Runs frame) other control = refl
+passed-throws (Initializes frame) other control = refl
 
 one_more : (k : ℕ) → k + 1 ≡ suc k
 one_more k = omega arith
@@ -76,10 +78,10 @@ module _ (world : World) (all : List FrameRecord) (program : Program) (texts : L
 
     control_more :
         (frame : Frame) → slice_get frames k ≡ Some frame
-        → passed frame w.now.control ≡ with_throws w.now.control.throws w.now.control.last (all_passed (take (k + 1) frames) t.control)
+        → passed frame w.now.control ≡ with_throws w.now.control (all_passed (take (k + 1) frames) t.control)
     control_more frame there =
-        ap (passed frame) w.control_is ∙ passed-throws frame w.now.control.throws w.now.control.last (all_passed (take k frames) t.control)
-        ∙ ap (λ (c : Control). with_throws w.now.control.throws w.now.control.last c)
+        ap (passed frame) w.control_is ∙ passed-throws frame w.now.control (all_passed (take k frames) t.control)
+        ∙ ap (λ (c : Control). with_throws w.now.control c)
         (sym (ap (λ (fs : List Frame). all_passed fs t.control) (take_more frames k frame there) ∙ all_passed-more (take k frames) frame t.control))
 
     none_caught : (frame : MethodFrame) (o : Option Handler) → handler_for program.world w.now.class frame ≡ o → None ≡ option_map pc_of o → o ≡ None
@@ -104,6 +106,7 @@ module _ (world : World) (all : List FrameRecord) (program : Program) (texts : L
             class = w.stands.class;
             throws = w.stands.throws;
             last = w.stands.last;
+            place = w.stands.place;
             memory = w.stands.memory;
           };
           control_is = control_more (Runs m.frame) m.there;
@@ -116,14 +119,14 @@ module _ (world : World) (all : List FrameRecord) (program : Program) (texts : L
     pub record Behind (own : InitializationRecord) (e : slice_get (reverse all) k ≡ Some (records.Initializes own)) : Type 0 where
       pub at : InitializationAt program frames k own
       pub behind : Thrown
-      pub replacing : Replacing world now held_now blocks_now program texts (passed_initialization at.frame.class w.now) behind (addresses ++ w.more)
+      pub replacing : Replacing world all (k + 1) now held_now blocks_now program texts (passed_initialization at.frame.class w.now) (drop (suc k) frames) behind (addresses ++ w.more)
       pub goes : unwound program.world behind (drop (suc k) frames) ≡ Ok goes_to
 
     pub behind_it : (own : InitializationRecord) (e : slice_get (reverse all) k ≡ Some (records.Initializes own)) → Behind own e
     behind_it own e =
         let i = initialization_at program addresses frames (reverse all) used k own h.frames_stand e in
         let parts =
-        bound_gave (replacement program.world (passed_initialization i.frame.class w.now)) (λ (b : Thrown). unwound program.world b (drop (suc k) frames)) goes_to
+        bound_gave (replacement program.world (passed_initialization i.frame.class w.now) (drop (suc k) frames)) (λ (b : Thrown). unwound program.world b (drop (suc k) frames)) goes_to
         (sym (ap (unwound program.world w.now) i.is) ∙ w.goes) in
         record {
           at = i;
@@ -136,8 +139,11 @@ module _ (world : World) (all : List FrameRecord) (program : Program) (texts : L
               class = w.stands.class;
               throws = w.stands.throws;
               last = w.stands.last;
+              place = w.stands.place;
               memory = w.stands.memory;
             };
+            place = subst (λ (n : ℕ). PlaceStands program.world (place_in (drop (suc k) frames)) (record_place (drop n (reverse all)))) (sym (one_more k))
+                (places_stand program addresses frames (reverse all) used (suc k) h.frames_stand);
             goes = parts.1;
           };
           goes = parts.2;
@@ -156,7 +162,7 @@ module _ (world : World) (all : List FrameRecord) (program : Program) (texts : L
           stands = subst (λ (l : List ℕ). ThrownStands program texts b.behind l next held_next blocks_next) joined r.stands;
           control_is =
               r.control_is
-              ∙ ap (λ (c : Control). with_throws b.behind.control.throws b.behind.control.last c) (control_more (Initializes b.at.frame) b.at.there);
+              ∙ ap (λ (c : Control). with_throws b.behind.control c) (control_more (Initializes b.at.frame) b.at.there);
           goes = subst (λ (n : ℕ). unwound program.world b.behind (drop n frames) ≡ Ok goes_to) (sym (one_more k)) b.goes;
           grows = grows_twice addresses w.more r.more blocks blocks_now blocks_next w.grows r.grows;
         }

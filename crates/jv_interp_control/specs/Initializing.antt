@@ -45,5 +45,6 @@ pub record IsAsBefore (before after : Control) : Type 0 where
   pub states : after.states.items ≡ before.states.items
   pub throws : after.throws ≡ before.throws
   pub last : after.last ≡ before.last
+  pub place : after.place ≡ before.place
   pub main : after.main ≡ before.main
   pub end : after.end ≡ before.end

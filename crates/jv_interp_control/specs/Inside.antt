@@ -2,6 +2,7 @@ pub mod Codes
 pub mod States
 pub mod Passing
 pub mod Handling
+pub mod Places
 pub mod Walking
 pub mod Unwinding
 pub mod Nexts

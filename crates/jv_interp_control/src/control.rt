@@ -12,6 +12,13 @@ pub enum End {
     NoMain,
 }
 
+/// Where an object was thrown: the number of a method among the methods of all classes, and the offset of an instruction in it.
+#[derive(Clone, Copy)]
+pub struct PlaceRecord {
+    pub method: u32,
+    pub pc: u32,
+}
+
 /// The states of classes, throws, the main method and the end.
 #[derive(Drop)]
 pub struct Control {
@@ -21,6 +28,8 @@ pub struct Control {
     pub throws: u64,
     /// The number of the class of the last object that was thrown (own).
     pub last: Option<u32>,
+    /// Where it was thrown, where that was in a method.
+    pub place: Option<PlaceRecord>,
     /// The number of the main method among the methods of all classes, where there is one.
     pub main: Option<u32>,
     /// How the guest ended, if it did.

@@ -17,6 +17,7 @@ mod handlers;
 mod initialization;
 mod leaving;
 mod passing;
+mod places;
 mod program;
 mod resuming;
 mod returning;
@@ -30,7 +31,7 @@ mod unwinding;
 
 pub use acting::act;
 pub use beginning::begin;
-pub use control::{Control, End};
+pub use control::{Control, End, PlaceRecord};
 pub use frames::Frames;
 pub use initialization::initialization_step;
 pub use program::Program;

@@ -6,8 +6,10 @@ ghost use Rattle.jv_interp_control.specs.Inside.Walking.{CanReplace, Replaces, I
 ghost use Rattle.jv_interp_members.specs.Methods.{AreMethods};
 
 use crate::classes::is_at_or_below;
+use crate::control::PlaceRecord;
 use crate::exceptions::make_exception;
 use crate::handlers::handler_of;
+use crate::places::place_behind;
 use jv_interp_heap::{ERROR, IN_INITIALIZER, system_has_numbers};
 use jv_interp_held::Held;
 use jv_interp_members::Methods;
@@ -16,12 +18,13 @@ use jv_link_cache::Linked;
 use jv_loader::Classes;
 use jv_store::{OutOfMemory, Store};
 
-/// What is thrown: the address of the object, the number of its class, and how many throws there were so far, up to 2^64 - 1 (own).
+/// What is thrown: the address of the object, the number of its class, how many throws there were so far, up to 2^64 - 1 (own), and where.
 #[derive(Clone, Copy)]
 pub(crate) struct Thrown {
     pub(crate) address: u32,
     pub(crate) class: u32,
     pub(crate) throws: u64,
+    pub(crate) place: Option<PlaceRecord>,
     /// Whether it is an ExceptionInInitializerError that was made on the way.
     pub(crate) made: bool,
 }
@@ -33,9 +36,9 @@ pub(crate) fn once_more(throws: u64) -> u64
     throws.saturating_add(1)
 }
 
-/// What is thrown behind the initialization of a class, which a throw passed: an ExceptionInInitializerError in place of what is no
-/// java/lang/Error (JVMS 5.5). It is an Error itself, so one is made at most; where its cells are not left the OutOfMemoryError object of
-/// the start takes its place (own).
+/// What is thrown behind the initialization of a class, which a throw passed with so many frames: an ExceptionInInitializerError in place
+/// of what is no java/lang/Error (JVMS 5.5). It is an Error itself, so one is made at most; where its cells are not left the
+/// OutOfMemoryError object of the start takes its place (own).
 ///
 /// # Errors
 ///
@@ -43,17 +46,21 @@ pub(crate) fn once_more(throws: u64) -> u64
 pub(crate) fn replaced<S: Store>(
     classes: &Classes<'_>,
     linked: &Linked<'_>,
+    records: &[FrameRecord],
+    passed: usize,
     held: &mut Held,
     store: &mut S,
     thrown: Thrown,
 ) -> Result<Thrown, OutOfMemory>
-    requires can { CanReplace classes.now.world thrown held.old (S.content store.old) }
+    requires can { CanReplace classes.now.world records.now passed thrown held.old (S.content store.old) }
     requires linked { IsLinked classes.now.world linked.now }
+    requires passed { passed ≤ length records.now }
+    requires count { length records.now < 4294967296 }
     requires known { IsKnown thrown }
     requires few { held.old.cells < 2147483648 }
     requires room { held.old.cells ≤ S.room_left store.old }
     ensures replaced { IfOk result
-        (λ now. Replaces classes.now.world thrown held.old (S.content store.old) now held.new (S.content store.new)) }
+        (λ now. Replaces classes.now.world records.now passed thrown held.old (S.content store.old) now held.new (S.content store.new)) }
     ensures known { IfOk result IsKnown }
     ensures stays { IfOk result (λ now. StaysUnlessMade thrown now held.old (S.content store.old) held.new (S.content store.new)) }
     ensures held { held.new ≡ record held.old { cells = held.new.cells } }
@@ -71,6 +78,7 @@ pub(crate) fn replaced<S: Store>(
     }
     let words = linked.object_words(IN_INITIALIZER as usize);
     let throws = once_more(thrown.throws);
+    let place = place_behind(records, passed);
     let Some(address) = make_exception(held, store, IN_INITIALIZER, words)? else {
         let address = held.out_of_memory;
         let class = store.get(address, 0);
@@ -78,6 +86,7 @@ pub(crate) fn replaced<S: Store>(
             address,
             class,
             throws,
+            place,
             made: false,
         });
     };
@@ -85,6 +94,7 @@ pub(crate) fn replaced<S: Store>(
         address,
         class: IN_INITIALIZER,
         throws,
+        place,
         made: true,
     })
 }
@@ -142,7 +152,7 @@ pub(crate) fn walk<S: Store>(
                 }
             }
             FrameRecord::Initializes(_own) => {
-                now = replaced(classes, linked, held, store, now)?;
+                now = replaced(classes, linked, records, passed + 1, held, store, now)?;
             }
         }
     }

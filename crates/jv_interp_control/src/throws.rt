@@ -9,6 +9,7 @@ ghost use Rattle.jv_interp_control.specs.Moves.{Throwing, Raising};
 use crate::control::Control;
 use crate::exceptions::make_exception;
 use crate::frames::Frames;
+use crate::places::place_behind;
 use crate::throwing::{Thrown, once_more};
 use crate::unwinding::unwind;
 use jv_interp_held::Held;
@@ -51,10 +52,12 @@ pub fn throw<S: Store>(
 {
     let class = store.get(address, 0);
     let throws = once_more(control.throws);
+    let place = place_behind(&frames.records, 0);
     let thrown = Thrown {
         address,
         class,
         throws,
+        place,
         made: false,
     };
     unwind(

@@ -61,6 +61,7 @@ pub(crate) fn unwind<S: Store>(
     pass_frames(classes, methods, frames, control, landing.passed);
     control.throws = landing.thrown.throws;
     control.last = Some(landing.thrown.class);
+    control.place = landing.thrown.place;
     let Some(pc) = landing.handler else {
         control.end = End::Threw(landing.thrown.class);
         return Ok(());

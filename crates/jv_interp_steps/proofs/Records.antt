@@ -16,7 +16,7 @@ use Rattle.jv_interp_words.specs.StatesInWords.{RunningStands}
 use Rattle.jv_interp_held.specs.HeldInWords.{MemoryStands}
 use Rattle.std.specs.Option.{option_and_then}
 use Rattle.jv_interp_held.specs.ClassStates.{AreClassStates}
-use Rattle.jv_interp_control.specs.ControlStands.{IsClassOf, EndStands, ControlStands}
+use Rattle.jv_interp_control.specs.ControlStands.{IsClassOf, PlaceStands, EndStands, ControlStands}
 use Rattle.jv_interp_heap.specs.ObjectsInBlocks.{Blocks}
 use Rattle.jv_interp_held.specs.declared.held.Held.{Held}
 use Rattle.jv_interp_members.specs.declared.methods.Methods.{Methods}
@@ -173,6 +173,7 @@ module _ (world : World) (verified : List Bool) (program : Program) (texts : Lis
           states = subst (λ ss. AreClassStates program.world s.control.states ss) (sym b.states) c.states;
           throws = c.throws ∙ sym b.throws;
           last = subst (λ l. IsClassOf program.world s.control.last l) (sym b.last) c.last;
+          place = subst (λ p. PlaceStands program.world s.control.place p) (sym b.place) c.place;
           main = ap (λ m. option_and_then (slice_get (methods_of program.world)) m) b.main ∙ c.main;
           end = subst (λ e. EndStands program.world s.control.end e) (sym b.end) c.end;
         };

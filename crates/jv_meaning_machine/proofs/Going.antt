@@ -26,7 +26,7 @@ use Rattle.jv_meaning_machine.specs.Effects.Effect.{Goes, Enters, Constructs, Le
 use Rattle.jv_meaning_machine.specs.Fields.{described, with_static, with_object}
 use Rattle.jv_meaning_machine.specs.Instructions.{execute}
 use Rattle.jv_meaning_machine.specs.Literals.{constant_value}
-use Rattle.jv_meaning_machine.specs.Throws.{exception, Thrown, thrown_once_more, thrown, handler_for, at_handler, caught, replacement_if, replacement, passed_initialization, passed_method, unwound, throw, raise}
+use Rattle.jv_meaning_machine.specs.Throws.{exception, Thrown, place_in, thrown_once_more, thrown, handler_for, at_handler, caught, replacement_if, replacement, passed_initialization, passed_method, unwound, throw, raise}
 use Rattle.jv_meaning_machine.specs.Entering.{within_words, method_frame, entered_above, enter, entered_on, enter_init, at_offset, resumed, leave_to}
 use Rattle.jv_meaning_machine.specs.Initialization.{begin, initialization_of, is_verified, main_arguments, tasks_left, finish, finished, set_field, do_task, with_tasks, do_first}
 use Rattle.jv_meaning_machine.specs.Step.{waiting, act, context, step_in, step}
@@ -98,10 +98,10 @@ module _ (G : ClassStates → ℕ → List Frame → Type 0) (kept : IsKept G) w
 
   thrown_goes :
       (control : Control) (frames : List Frame) (made : Memory × ℕ) → Going control frames
-      → Leads Thrown (Passing frames) (thrown control made)
+      → Leads Thrown (Passing frames) (thrown frames control made)
   thrown_goes control frames made h =
       let known : (object : ℕ) (class : List ℕ)
-      → Passing frames (record { object = object; class = class; memory = made.0; control = thrown_once_more class control }) =
+      → Passing frames (record { object = object; class = class; memory = made.0; control = thrown_once_more class (place_in frames) control }) =
       λ object class. record { running = h.running; holds = kept.throws control.states control.throws frames h.holds } in
       search (bound, leaf, known)
 
@@ -116,14 +116,14 @@ module _ (G : ClassStates → ℕ → List Frame → Type 0) (kept : IsKept G) w
 
   replaced_if_goes :
       (world : World) (t : Thrown) (frames : List Frame) (error : Bool) → Passing frames t
-      → Leads Thrown (Passing frames) (replacement_if world t error)
+      → Leads Thrown (Passing frames) (replacement_if world t frames error)
   replaced_if_goes world t frames true h = leaf (Passing frames) t h
   replaced_if_goes world t frames false h =
-      bound (exception world (codes "java/lang/ExceptionInInitializerError") t.memory) (thrown t.control)
+      bound (exception world (codes "java/lang/ExceptionInInitializerError") t.memory) (thrown frames t.control)
       (λ made e. thrown_goes t.control frames made h)
 
   replaced_goes :
-      (world : World) (t : Thrown) (frames : List Frame) → Passing frames t → Leads Thrown (Passing frames) (replacement world t)
+      (world : World) (t : Thrown) (frames : List Frame) → Passing frames t → Leads Thrown (Passing frames) (replacement world t frames)
   replaced_goes world t frames h = replaced_if_goes world t frames (is_at_or_below world t.class (codes "java/lang/Error")) h
 
   passed :
@@ -150,7 +150,7 @@ module _ (G : ClassStates → ℕ → List Frame → Type 0) (kept : IsKept G) w
       by_handler None up = up
       by_handler (Some handler) up = caught_goes t frame below handler h
   unwound_goes world (Initializes frame ∷ below) t h =
-      chained (Passing below) Went (replacement world (passed_initialization frame.class t)) (λ t. unwound world t below)
+      chained (Passing below) Went (replacement world (passed_initialization frame.class t) below) (λ t. unwound world t below)
       (replaced_goes world (passed_initialization frame.class t) below (passed t frame below h))
       (λ t k. unwound_goes world below t k)
 
@@ -158,15 +158,15 @@ module _ (G : ClassStates → ℕ → List Frame → Type 0) (kept : IsKept G) w
       (world : World) (memory : Memory) (frames : List Frame) (control : Control) (object : ℕ) → Going control frames
       → Leads State Went (throw world memory frames control object)
   throw_goes world memory frames control object h =
-      chained (Passing frames) Went (thrown control (memory, object)) (λ t. unwound world t frames)
+      chained (Passing frames) Went (thrown frames control (memory, object)) (λ t. unwound world t frames)
       (thrown_goes control frames (memory, object) h) (λ t k. unwound_goes world frames t k)
 
   raise_goes :
       (world : World) (memory : Memory) (frames : List Frame) (control : Control) (name : List ℕ) → Going control frames
       → Leads State Went (raise world memory frames control name)
   raise_goes world memory frames control name h =
-      chained (Passing frames) Went (exception world name memory >>= thrown control) (λ t. unwound world t frames)
-      (bound (exception world name memory) (thrown control) (λ made e. thrown_goes control frames made h))
+      chained (Passing frames) Went (exception world name memory >>= thrown frames control) (λ t. unwound world t frames)
+      (bound (exception world name memory) (thrown frames control) (λ made e. thrown_goes control frames made h))
       (λ t k. unwound_goes world frames t k)
 
   -- ---- words that are given

@@ -30,7 +30,7 @@ use Rattle.jv_meaning_machine.specs.Costs.{paid, code_words, method_words, initi
 use Rattle.jv_meaning_machine.specs.Effects.{out_of_memory}
 use Rattle.jv_meaning_machine.specs.Fields.{described, with_object}
 use Rattle.jv_meaning_machine.specs.Literals.{constant_value}
-use Rattle.jv_meaning_machine.specs.Throws.{exception_made, exception, Thrown, thrown_once_more, thrown, handler_for, caught, replacement_if, replacement, passed_initialization, passed_method, unwound, throw, raise}
+use Rattle.jv_meaning_machine.specs.Throws.{exception_made, exception, Thrown, place_in, thrown_once_more, thrown, handler_for, caught, replacement_if, replacement, passed_initialization, passed_method, unwound, throw, raise}
 use Rattle.jv_meaning_machine.specs.Entering.{within_words, passed_values, method_frame, entered_above, enter, entered_on, enter_init, at_offset, resumed, leave_to, leave}
 use Rattle.jv_meaning_machine.specs.Initialization.{begin, initialization_of, is_verified, main_arguments, tasks_left, finish, finished, set_field, do_task, with_tasks, do_first, initialization_step}
 use Rattle.jv_meaning_machine.specs.Laws.Shapes.{frame_words}
@@ -127,10 +127,10 @@ module _ (program : Program) (from : Memory) (all_words : ℕ) (main : List ℕ)
 
   thrown_stays :
       (control : Control) (frames : List Frame) (made : Memory × ℕ) → KeepsFrom made.0 → HasWords control frames
-      → Leads Thrown (ThrownFrom frames) (thrown control made)
+      → Leads Thrown (ThrownFrom frames) (thrown frames control made)
   thrown_stays control frames made h w =
       let known : (object : ℕ) (class : List ℕ)
-      → ThrownFrom frames (record { object = object; class = class; memory = made.0; control = thrown_once_more class control }) =
+      → ThrownFrom frames (record { object = object; class = class; memory = made.0; control = thrown_once_more class (place_in frames) control }) =
       λ object class. record { memory = h; words = record { sum = w.sum; same_main = w.same_main } } in
       search (bound, leaf, known)
 
@@ -160,16 +160,16 @@ module _ (program : Program) (from : Memory) (all_words : ℕ) (main : List ℕ)
 
   replaced_if_stays :
       (t : Thrown) (frames : List Frame) (error : Bool) → ThrownFrom frames t
-      → Leads Thrown (ThrownFrom frames) (replacement_if program.world t error)
+      → Leads Thrown (ThrownFrom frames) (replacement_if program.world t frames error)
   replaced_if_stays t frames true h = leaf (ThrownFrom frames) t h
   replaced_if_stays t frames false h =
       chained HasMemory (ThrownFrom frames) (exception program.world (codes "java/lang/ExceptionInInitializerError") t.memory)
-      (thrown t.control)
+      (thrown frames t.control)
       (exception_stays (codes "java/lang/ExceptionInInitializerError") t.memory h.memory)
       (λ made k. thrown_stays t.control frames made k h.words)
 
   replaced_stays :
-      (t : Thrown) (frames : List Frame) → ThrownFrom frames t → Leads Thrown (ThrownFrom frames) (replacement program.world t)
+      (t : Thrown) (frames : List Frame) → ThrownFrom frames t → Leads Thrown (ThrownFrom frames) (replacement program.world t frames)
   replaced_stays t frames h = replaced_if_stays t frames (is_at_or_below program.world t.class (codes "java/lang/Error")) h
 
   pub unwound_stays : (frames : List Frame) (t : Thrown) → ThrownFrom frames t → Leads State Stays (unwound program.world t frames)
@@ -188,7 +188,7 @@ module _ (program : Program) (from : Memory) (all_words : ℕ) (main : List ℕ)
       by_handler None up = up
       by_handler (Some handler) up = caught_stays t frame below handler h
   unwound_stays (Initializes frame ∷ below) t h =
-      chained (ThrownFrom below) Stays (replacement program.world (passed_initialization frame.class t))
+      chained (ThrownFrom below) Stays (replacement program.world (passed_initialization frame.class t) below)
       (λ t. unwound program.world t below)
       (replaced_stays (passed_initialization frame.class t) below (initialization_passed t frame below h))
       (λ t k. unwound_stays below t k)
@@ -197,15 +197,15 @@ module _ (program : Program) (from : Memory) (all_words : ℕ) (main : List ℕ)
       (memory : Memory) (frames : List Frame) (control : Control) (object : ℕ) → KeepsFrom memory → HasWords control frames
       → Leads State Stays (throw program.world memory frames control object)
   throw_stays memory frames control object h w =
-      chained (ThrownFrom frames) Stays (thrown control (memory, object)) (λ t. unwound program.world t frames)
+      chained (ThrownFrom frames) Stays (thrown frames control (memory, object)) (λ t. unwound program.world t frames)
       (thrown_stays control frames (memory, object) h w) (λ t k. unwound_stays frames t k)
 
   pub raise_stays :
       (memory : Memory) (frames : List Frame) (control : Control) (name : List ℕ) → KeepsFrom memory → HasWords control frames
       → Leads State Stays (raise program.world memory frames control name)
   raise_stays memory frames control name h w =
-      chained (ThrownFrom frames) Stays (exception program.world name memory >>= thrown control) (λ t. unwound program.world t frames)
-      (chained HasMemory (ThrownFrom frames) (exception program.world name memory) (thrown control) (exception_stays name memory h)
+      chained (ThrownFrom frames) Stays (exception program.world name memory >>= thrown frames control) (λ t. unwound program.world t frames)
+      (chained HasMemory (ThrownFrom frames) (exception program.world name memory) (thrown frames control) (exception_stays name memory h)
       (λ made k. thrown_stays control frames made k w))
       (λ t k. unwound_stays frames t k)
 

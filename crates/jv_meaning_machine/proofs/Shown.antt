@@ -219,7 +219,7 @@ shows_no_main main input b feeds n = by_class (class_named (world_of (with_libra
     by_class :
         (o : Option Loaded) → class_named (world_of (with_library []) []) (codes "java/lang/OutOfMemoryError") ≡ o
         → Shows (record { library = []; files = []; main = main; input = input }) b feeds n
-        (record { verdicts = []; steps = n; output = []; throws = 0; last = None; end = NoMain })
+        (record { verdicts = []; steps = n; output = []; throws = 0; last = None; place = None; end = NoMain })
     by_class None e = absurd (true≢false (ap (λ (o : Option Loaded). is_some o) e))
     by_class (Some error) e =
         let first : State = state_of (start_memory (world_of (with_library []) []) input b error) [] (start_control main b NoMain) in

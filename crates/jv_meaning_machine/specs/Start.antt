@@ -46,7 +46,7 @@ start_memory world input budget error = record {
 
 abbrev pub start_control : List ℕ → Budget → End → Control
 start_control main budget end =
-    record { main = main; states = []; words = budget.words; throws = 0; last = None; end = end }
+    record { main = main; states = []; words = budget.words; throws = 0; last = None; place = None; end = end }
 
 -- where there is no main method the guest has ended
 abbrev pub start_with : Program → List ℕ → Budget → Memory → Option Declared → OrFault State

@@ -83,14 +83,22 @@ pub data End : Type 0 where
   Threw : (class : List ℕ) → End
   NoMain : End
 
+-- where an object is thrown: at the instruction at an offset of a method, which is that of its class with this name and descriptor (4.6)
+pub record ThrowPlace : Type 0 where
+  pub class : List ℕ
+  pub method : List ℕ
+  pub descriptor : List ℕ
+  pub offset : ℕ
+
 -- the main class's name; the states of classes; the words that are left for frames; how many throws there were, up to
--- 2^64 - 1, and the class of the last one; and how the guest ended, if it did
+-- 2^64 - 1, and of the last one the class and the place; and how the guest ended, if it did
 pub record Control : Type 0 where
   pub main : List ℕ
   pub states : ClassStates
   pub words : ℕ
   pub throws : ℕ
   pub last : Option (List ℕ)
+  pub place : Option ThrowPlace
   pub end : End
 
 -- the frames, the current one first (2.5.2, 2.6), none where the guest has ended

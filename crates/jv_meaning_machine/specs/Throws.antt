@@ -14,7 +14,7 @@ use Rattle.jv_meaning_machine.specs.Values.Value.{Reference}
 use Rattle.jv_meaning_machine.specs.Objects.{made_object, is_at_or_below}
 use Rattle.jv_meaning_machine.specs.Frames.{MethodFrame, Frame}
 use Rattle.jv_meaning_machine.specs.Frames.Frame.{Runs, Initializes}
-use Rattle.jv_meaning_machine.specs.State.{Memory, Control, State, state_of, with_state}
+use Rattle.jv_meaning_machine.specs.State.{Memory, ThrowPlace, Control, State, state_of, with_state}
 use Rattle.jv_meaning_machine.specs.State.ClassState.{Erroneous}
 use Rattle.jv_meaning_machine.specs.State.End.{Threw}
 use Rattle.jv_meaning_machine.specs.Costs.{paid, with_objects, next_object, method_words, initialization_words, with_words_back}
@@ -42,14 +42,32 @@ pub record Thrown : Type 0 where
   pub memory : Memory
   pub control : Control
 
--- a throw more; their number stays at 2^64 - 1
-abbrev pub thrown_once_more : List ℕ → Control → Control
-thrown_once_more class control = record control { throws = min (control.throws + 1) (2 ^ 64 - 1); last = Some class }
+-- it is thrown at the instruction of the first of these frames that is a method's (own): an initialization is begun by the instruction
+-- below it, and main's by none
+abbrev pub place_in : List Frame → Option ThrowPlace
+place_in [] = None
+place_in (Runs frame ∷ below) = Some (record {
+  class = (current_class frame.method).name;
+  method = frame.method.site.method.name;
+  descriptor = frame.method.site.method.descriptor;
+  offset = frame.offset;
+})
+place_in (Initializes frame ∷ below) = place_in below
 
-abbrev pub thrown : Control → Memory × ℕ → OrFault Thrown
-thrown control made =
+-- a throw more; their number stays at 2^64 - 1
+abbrev pub thrown_once_more : List ℕ → Option ThrowPlace → Control → Control
+thrown_once_more class place control =
+    record control { throws = min (control.throws + 1) (2 ^ 64 - 1); last = Some class; place = place }
+
+abbrev pub thrown : List Frame → Control → Memory × ℕ → OrFault Thrown
+thrown frames control made =
     object_at made.0.objects made.1 >>= instance_in >>= λ instance.
-    Ok (record { object = made.1; class = instance.class; memory = made.0; control = thrown_once_more instance.class control })
+    Ok (record {
+      object = made.1;
+      class = instance.class;
+      memory = made.0;
+      control = thrown_once_more instance.class (place_in frames) control;
+    })
 
 abbrev pub with_control : Thrown → Control → Thrown
 with_control t control = record t { control = control }
@@ -79,14 +97,16 @@ caught t frame below handler =
     tested StackFault (nat_le 1 frame.method.code.max_stack) frame >>= λ frame.
     Ok (state_of t.memory (at_handler frame handler.handler_pc t.object ∷ below) t.control)
 
--- ---- initializations that a throw passes: an ExceptionInInitializerError is thrown in place of what is no java/lang/Error
+-- ---- initializations that a throw passes: an ExceptionInInitializerError is thrown in place of what is no java/lang/Error, in the
+-- first of the frames below
 
-abbrev pub replacement_if : World → Thrown → Bool → OrFault Thrown
-replacement_if world t true = Ok t
-replacement_if world t false = exception world (codes "java/lang/ExceptionInInitializerError") t.memory >>= thrown t.control
+abbrev pub replacement_if : World → Thrown → List Frame → Bool → OrFault Thrown
+replacement_if world t below true = Ok t
+replacement_if world t below false =
+    exception world (codes "java/lang/ExceptionInInitializerError") t.memory >>= thrown below t.control
 
-abbrev pub replacement : World → Thrown → OrFault Thrown
-replacement world t = replacement_if world t (is_at_or_below world t.class (codes "java/lang/Error"))
+abbrev pub replacement : World → Thrown → List Frame → OrFault Thrown
+replacement world t below = replacement_if world t below (is_at_or_below world t.class (codes "java/lang/Error"))
 
 -- the class becomes erroneous
 abbrev pub passed_initialization : Loaded → Thrown → Thrown
@@ -104,11 +124,11 @@ unwound world t (Runs frame ∷ below) = elim (handler_for world t.class frame) 
   | Some handler ↦ caught t frame below handler
 ]
 unwound world t (Initializes frame ∷ below) =
-    replacement world (passed_initialization frame.class t) >>= λ t. unwound world t below
+    replacement world (passed_initialization frame.class t) below >>= λ t. unwound world t below
 
 -- an object is thrown in the first of these frames; and so is an exception of a class that the machine makes
 abbrev pub throw : World → Memory → List Frame → Control → ℕ → OrFault State
-throw world memory frames control object = thrown control (memory, object) >>= λ t. unwound world t frames
+throw world memory frames control object = thrown frames control (memory, object) >>= λ t. unwound world t frames
 
 abbrev pub raise : World → Memory → List Frame → Control → List ℕ → OrFault State
-raise world memory frames control name = exception world name memory >>= thrown control >>= λ t. unwound world t frames
+raise world memory frames control name = exception world name memory >>= thrown frames control >>= λ t. unwound world t frames

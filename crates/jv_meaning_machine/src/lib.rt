@@ -31,7 +31,7 @@ pub use row::{
     constant_rows, construction_rows, conversion_rows, fault_rows, feed_rows, field_rows,
     form_rows, handler_rows, initialization_rows, instance_of_rows, int_rows, link_error_rows,
     link_order_rows, local_rows, long_rows, new_array_rows, object_rows, output_rows, passed_rows,
-    shift_rows, switch_rows,
+    place_rows, shift_rows, switch_rows,
 };
 pub use run_law::{
     alone_goes_on, alone_steps_on, cells_are_budgeted, first_objects_cost, objects_are_never_fewer,

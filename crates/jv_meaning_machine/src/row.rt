@@ -6,7 +6,7 @@ ghost use Rattle.jv_meaning_machine.specs.Rows.Arithmetic.{IntRows, LongRows, Sh
 ghost use Rattle.jv_meaning_machine.specs.Rows.Arrays.{ArrayLoadRows, ArrayStoreRows, NewArrayRows};
 ghost use Rattle.jv_meaning_machine.specs.Rows.Casts.{CastRows, InstanceOfRows};
 ghost use Rattle.jv_meaning_machine.specs.Rows.Links.{LinkErrorRows, LinkOrderRows};
-ghost use Rattle.jv_meaning_machine.specs.Rows.Throws.{HandlerRows, PassedRows, ConstructionRows};
+ghost use Rattle.jv_meaning_machine.specs.Rows.Throws.{HandlerRows, PassedRows, PlaceRows, ConstructionRows};
 ghost use Rattle.jv_meaning_machine.specs.Rows.Members.{ConstantRows, FieldRows, CallRows};
 ghost use Rattle.jv_meaning_machine.specs.Rows.Stack.{FormRows, LocalRows, BranchRows, SwitchRows};
 ghost use Rattle.jv_meaning_machine.specs.Rows.Faults.{FaultRows};
@@ -120,6 +120,11 @@ pub fn handler_rows()
 /// Worked rows: throws that pass initializations, and constants of fields, computed.
 pub fn passed_rows()
     ensures { PassedRows }
+{}
+
+/// Worked rows: where the last throw was, computed.
+pub fn place_rows()
+    ensures { PlaceRows }
 {}
 
 /// Worked rows: construction of objects, computed.

@@ -310,8 +310,9 @@ module _ (program : Program) (rooted : IsRooted program.world) (next_starts : Ne
       → Contains f.method.code.exception_table h → catches program.world (current_class f.method).constant_pool t.class h ≡ true
       → catch_type f.method h.catch_type ≡ Some type → (p : Place) → p.heap ≡ heap → p.method ≡ f.method
       → Item p type (Reference t.object))
-      (replacement_ok : (heap : Heap) (t : Thrown) (d : ℕ) → IsThrownGood heap t
-      → Holds (λ u. (b : Heap) × IsLater d heap b × IsThrownGood b u × (u.control.main ≡ t.control.main)) (replacement program.world t))
+      (replacement_ok : (heap : Heap) (t : Thrown) (below : List Frame) (d : ℕ) → IsThrownGood heap t
+      → Holds (λ u. (b : Heap) × IsLater d heap b × IsThrownGood b u × (u.control.main ≡ t.control.main))
+      (replacement program.world t below))
       (thrown_loadable : (heap : Heap) (t : Thrown) → IsThrownGood heap t → AreLoadable program.world heap.objects)
       (begun_is_verified : (l : Loaded) (t : Thrown) (heap : Heap) → Contains program.world l → IsThrownGood heap t
       → IsThrownGood heap (passed_initialization l t))
@@ -383,7 +384,7 @@ module _ (program : Program) (rooted : IsRooted program.world) (next_starts : Ne
           by_handler None e next = next
           by_handler (Some h) e next = caught_ok heap t f fs h ok main c.0 c.1 e loadable
       unwound_ok heap t (Initializes f ∷ fs) ok main c loadable =
-          then_holds (replacement_ok heap (passed_initialization f.class t) (length fs) (begun_is_verified f.class t heap c.0.here ok))
+          then_holds (replacement_ok heap (passed_initialization f.class t) fs (length fs) (begun_is_verified f.class t heap c.0.here ok))
           (λ u k.
           unwound_ok k.0 u fs k.2 (main_below u.control.main k.3 fs main) (catching_of k.0 Again fs (waiting_later fs k.1 Again c.2))
           (thrown_loadable k.0 u k.2))

@@ -41,10 +41,10 @@ module _ (program : Program) (sound : IsSound program) (next_starts : NextStarts
   IsFine a t = IsThrownGood program sound.rooted next_starts stands_in_list a t
 
   thrown_good :
-      (a : Heap) (memory : Memory) (control : Control) (id : ℕ) → a.objects ≡ memory.objects → IsTypedMemory program memory
+      (a : Heap) (memory : Memory) (frames : List Frame) (control : Control) (id : ℕ) → a.objects ≡ memory.objects → IsTypedMemory program memory
       → AreVerified program control.states → IsObject program.world a.objects throwable_type id
-      → Holds (λ t. IsFine a t × (t.control.main ≡ control.main)) (thrown control (memory, id))
-  thrown_good a memory control id is typed verified h =
+      → Holds (λ t. IsFine a t × (t.control.main ≡ control.main)) (thrown frames control (memory, id))
+  thrown_good a memory frames control id is typed verified h =
       let at : slice_get memory.objects id ≡ Some h.object = subst (λ (os : List Object). slice_get os id ≡ Some h.object) is h.there in
       then_holds (then_holds (found_holds {P = λ o. o ≡ h.object} ReferenceFault (slice_get memory.objects id) h.object at refl) (λ o e.
       subst (λ (x : Object). Holds (λ i. h.object ≡ InstanceOf i) (instance_in x)) (sym e) (by_object h.object h.below))) (λ i e.
@@ -76,21 +76,23 @@ module _ (program : Program) (sound : IsSound program) (next_starts : NextStarts
   abbrev IsReplaced : Heap → Thrown → ℕ → Thrown → Type 0
   IsReplaced heap t d u = (b : Heap) × IsLater d heap b × IsFine b u × (u.control.main ≡ t.control.main)
 
-  pub replacement_ok : (heap : Heap) (t : Thrown) (d : ℕ) → IsFine heap t → Holds (IsReplaced heap t d) (replacement program.world t)
-  replacement_ok heap t d ok = by_test (is_at_or_below program.world t.class (codes "java/lang/Error"))
+  pub replacement_ok :
+      (heap : Heap) (t : Thrown) (below : List Frame) (d : ℕ) → IsFine heap t
+      → Holds (IsReplaced heap t d) (replacement program.world t below)
+  replacement_ok heap t below d ok = by_test (is_at_or_below program.world t.class (codes "java/lang/Error"))
     where
       also : (made : Memory × ℕ) (k : IsMade program heap made) (r : OrFault Thrown)
           → Holds (λ u. IsFine k.heap u × (u.control.main ≡ t.control.main)) r → Holds (IsReplaced heap t d) r
       also made k (Ok u) h = holds (k.heap, k.grows d, h.by.0, h.by.1)
       also made k (Err fault) h = absurd h.by
 
-      by_test : (b : Bool) → Holds (IsReplaced heap t d) (replacement_if program.world t b)
+      by_test : (b : Bool) → Holds (IsReplaced heap t d) (replacement_if program.world t below b)
       by_test true = holds (heap, same d heap, ok, refl)
       by_test false =
           then_holds (exception_ok program (makeable program sound) (out_of_memory_is_thrown program sound) heap t.memory
           (codes "java/lang/ExceptionInInitializerError") ok.is ok.memory
           (raised program sound (codes "java/lang/ExceptionInInitializerError") refl)) (λ made k.
-          also made k (thrown t.control made) (thrown_good k.heap made.0 t.control made.1 k.is k.typed ok.verified k.throwable))
+          also made k (thrown below t.control made) (thrown_good k.heap made.0 below t.control made.1 k.is k.typed ok.verified k.throwable))
 
   pub unwinding_ok :
       ((heap : Heap) (t : Thrown) (f : MethodFrame) (checked : IsChecked program f.method) (h : Handler) (type : FrameType) → IsFine heap t

@@ -17,7 +17,7 @@ pub record Unwinding (world : World) (thrown : Thrown) (program : Program) (text
   pub guests : IsGuestsWorld program.world
   pub frames_stand : FramesStand program addresses frames before.frames control.words
   pub control_stands : ControlStands program.world control before.control
-  pub control_is : t.control ≡ with_throws t.control.throws t.control.last control
+  pub control_is : t.control ≡ with_throws t.control control
   pub thrown_stands : ThrownStands program texts t addresses thrown before.held before.blocks
   pub goes : unwound program.world t frames ≡ Ok goes_to
 

@@ -6,7 +6,7 @@ use Rattle.jv_meaning_world.specs.World.{World}
 use Rattle.jv_meaning_machine.specs.Frames.{MethodFrame, Frame}
 use Rattle.jv_meaning_machine.specs.Frames.Frame.{Runs}
 use Rattle.jv_meaning_machine.specs.State.{Program, Control as ControlOfNames, State}
-use Rattle.jv_meaning_machine.specs.Throws.{Thrown as ThrownOfNames, handler_for, replacement, unwound}
+use Rattle.jv_meaning_machine.specs.Throws.{Thrown as ThrownOfNames, handler_for, place_in, replacement, unwound}
 use Rattle.jv_interp_words.specs.declared.records.FrameRecord.{FrameRecord}
 use Rattle.jv_interp_words.specs.FramesInWords.{AreFrames}
 use Rattle.jv_interp_heap.specs.ObjectsInBlocks.{Blocks, HasNumber}
@@ -17,19 +17,22 @@ use Rattle.jv_interp_held.specs.Growing.{Grows}
 use Rattle.jv_interp_heap.specs.SystemNumbers.{IsGuestsWorld}
 use Rattle.jv_interp_control.specs.declared.throwing.Thrown.{Thrown}
 use Rattle.jv_interp_control.specs.declared.throwing.Landing.{Landing}
+use Rattle.jv_interp_control.specs.ControlStands.{PlaceStands}
 use Rattle.jv_interp_control.specs.Inside.Passing.{all_passed}
+use Rattle.jv_interp_control.specs.Inside.Places.{record_place}
 
--- the control with throws and the class of the last one
-abbrev pub with_throws : ℕ → Option (List ℕ) → ControlOfNames → ControlOfNames
-with_throws throws last control = record control { throws = throws; last = last }
+-- a control with the throws of another one
+abbrev pub with_throws : (other : ControlOfNames) → ControlOfNames → ControlOfNames
+with_throws other control = record control { throws = other.throws; last = other.last; place = other.place }
 
--- An object stands for what is thrown, its class's number and the throws so far are known, and the memory stands.
+-- An object stands for what is thrown, its class's number, the throws so far and the place are known, and the memory stands.
 pub record ThrownStands (program : Program) (texts : List (List ℕ)) (t : ThrownOfNames) (addresses : List ℕ) (thrown : Thrown)
     (held : Held) (blocks : Blocks) : Type 0 where
   pub object : slice_get addresses t.object ≡ Some thrown.address
   pub class : HasNumber program.world t.class thrown.class
   pub throws : t.control.throws ≡ thrown.throws
   pub last : t.control.last ≡ Some t.class
+  pub place : PlaceStands program.world t.control.place thrown.place
   pub memory : MemoryStands program.world texts t.memory addresses held blocks
 
 -- An ExceptionInInitializerError that was made on the way is one.
@@ -38,32 +41,37 @@ IsKnown thrown = thrown.made ≡ true → thrown.class ≡ IN_INITIALIZER
 
 -- ---- it passes the initialization of a class
 
-pub record Replacing (world : World) (thrown : Thrown) (held : Held) (blocks : Blocks) (program : Program) (texts : List (List ℕ))
-    (t behind : ThrownOfNames) (addresses : List ℕ) : Type 0 where
+-- It comes to these frames, which are those with these records, the newest last, behind so many.
+pub record Replacing (world : World) (records : List FrameRecord) (passed : ℕ) (thrown : Thrown) (held : Held) (blocks : Blocks)
+    (program : Program) (texts : List (List ℕ)) (t : ThrownOfNames) (below : List Frame) (behind : ThrownOfNames) (addresses : List ℕ)
+    : Type 0 where
   pub world_is : program.world ≡ world
   pub guests : IsGuestsWorld program.world
   pub stands : ThrownStands program texts t addresses thrown held blocks
-  pub goes : replacement program.world t ≡ Ok behind
+  pub place : PlaceStands program.world (place_in below) (record_place (drop passed (reverse records)))
+  pub goes : replacement program.world t below ≡ Ok behind
 
-pub record CanReplace (world : World) (thrown : Thrown) (held : Held) (blocks : Blocks) : Type 0 where
+pub record CanReplace (world : World) (records : List FrameRecord) (passed : ℕ) (thrown : Thrown) (held : Held) (blocks : Blocks)
+    : Type 0 where
   pub program : Program
   pub texts : List (List ℕ)
   pub t : ThrownOfNames
+  pub below : List Frame
   pub behind : ThrownOfNames
   pub addresses : List ℕ
-  pub replacing : Replacing world thrown held blocks program texts t behind addresses
+  pub replacing : Replacing world records passed thrown held blocks program texts t below behind addresses
 
 pub record Replaced (program : Program) (texts : List (List ℕ)) (t behind : ThrownOfNames) (addresses : List ℕ) (before : Blocks)
     (thrown : Thrown) (held : Held) (blocks : Blocks) : Type 0 where
   pub more : List ℕ
   pub stands : ThrownStands program texts behind (addresses ++ more) thrown held blocks
-  pub control_is : behind.control ≡ with_throws behind.control.throws behind.control.last t.control
+  pub control_is : behind.control ≡ with_throws behind.control t.control
   pub grows : Grows addresses more before blocks
 
-abbrev pub Replaces : World → Thrown → Held → Blocks → Thrown → Held → Blocks → Type 0
-Replaces world thrown held blocks thrown_after held_after blocks_after =
-    (program : Program) (texts : List (List ℕ)) (t behind : ThrownOfNames) (addresses : List ℕ)
-    → Replacing world thrown held blocks program texts t behind addresses
+abbrev pub Replaces : World → List FrameRecord → ℕ → Thrown → Held → Blocks → Thrown → Held → Blocks → Type 0
+Replaces world records passed thrown held blocks thrown_after held_after blocks_after =
+    (program : Program) (texts : List (List ℕ)) (t : ThrownOfNames) (below : List Frame) (behind : ThrownOfNames) (addresses : List ℕ)
+    → Replacing world records passed thrown held blocks program texts t below behind addresses
     → Replaced program texts t behind addresses blocks thrown_after held_after blocks_after
 
 -- Where none is made now, all is as it was; and one that was made stays.
@@ -102,7 +110,7 @@ pub record Walked (count : ℕ) (program : Program) (texts : List (List ℕ)) (f
   pub more : List ℕ
   pub now : ThrownOfNames
   pub stands : ThrownStands program texts now (addresses ++ more) thrown held blocks
-  pub control_is : now.control ≡ with_throws now.control.throws now.control.last (all_passed (take count frames) t.control)
+  pub control_is : now.control ≡ with_throws now.control (all_passed (take count frames) t.control)
   pub goes : unwound program.world now (drop count frames) ≡ Ok goes_to
   pub grows : Grows addresses more before blocks
 

@@ -30,7 +30,7 @@ abbrev pub ShowsNoMain : Type 0
 ShowsNoMain =
     (main input : List ℕ) (b : Budget) (feeds : List Feed) (n : ℕ)
     → Shows (record { library = []; files = []; main = main; input = input }) b feeds n
-    (record { verdicts = []; steps = n; output = []; throws = 0; last = None; end = NoMain })
+    (record { verdicts = []; steps = n; output = []; throws = 0; last = None; place = None; end = NoMain })
 
 -- What a guest shows alone after so many of its own steps is one thing.
 abbrev pub ShowsOneThing : Type 0

@@ -24,7 +24,7 @@ use Rattle.jv_meaning_world.specs.Rows.Files.{object_name}
 use Rattle.jv_meaning_world.specs.System.Mnemonics.{return}
 use Rattle.jv_meaning_world.specs.System.Classes.{system_classes}
 use Rattle.jv_meaning_machine.specs.Faults.{OrFault, ◌>>=◌}
-use Rattle.jv_meaning_machine.specs.State.{Program, End}
+use Rattle.jv_meaning_machine.specs.State.{Program, End, State}
 use Rattle.jv_meaning_machine.specs.Start.{Budget}
 use Rattle.jv_meaning_machine.specs.Alone.{Feed, alone}
 use Rattle.jv_meaning_machine.specs.Observation.{Observed, observation}
@@ -59,19 +59,23 @@ budget output = record { cells = 64; words = 64; output = output }
 
 -- ---- what is shown, beside the verdicts
 
--- of a guest with an input, which is fed
-abbrev pub run_fed : Program → List ℕ → List ℕ → List Feed → ℕ → ℕ → OrFault Observed
-run_fed program main input feeds output n =
+-- a guest with an input, which is fed
+abbrev pub run_to : Program → List ℕ → List ℕ → List Feed → ℕ → ℕ → OrFault State
+run_to program main input feeds output n =
     alone (record { program = program; verdicts = [] }) (record { library = []; files = []; main = main; input = input })
     (budget output) feeds n
-    >>= λ s. Ok (observation [] n s)
+
+-- the place of the last throw has rows of its own
+abbrev pub run_fed : Program → List ℕ → List ℕ → List Feed → ℕ → ℕ → OrFault Observed
+run_fed program main input feeds output n =
+    run_to program main input feeds output n >>= λ s. Ok (record (observation [] n s) { place = None })
 
 abbrev pub run_with : Program → List ℕ → List ℕ → ℕ → ℕ → OrFault Observed
 run_with program main input output n = run_fed program main input [] output n
 
 abbrev pub shown : ℕ → List ℕ → ℕ → Option (List ℕ) → End → OrFault Observed
 shown n output throws last end =
-    Ok (record { verdicts = []; steps = n; output = output; throws = throws; last = last; end = end })
+    Ok (record { verdicts = []; steps = n; output = output; throws = throws; last = last; place = None; end = end })
 
 -- ---- instructions
 

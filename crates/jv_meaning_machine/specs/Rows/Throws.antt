@@ -1,6 +1,6 @@
 -- Worked rows (JVMS 2.9, 2.10, 5.5): handlers, throws that pass calls and initializations, and what is constructed in which
 -- order, computed.
-use Rattle.std.specs.Prelude.{◌≡◌, ℕ, ◌-◌, ◌^◌, List, [], ◌∷◌, replicate, Some, None, Err, pos, codes}
+use Rattle.std.specs.Prelude.{◌≡◌, ℕ, ◌-◌, ◌^◌, List, [], ◌∷◌, replicate, Option, Some, None, Ok, Err, pos, codes}
 use Rattle.jv_format.specs.declared.handlers.Handler.{Handler}
 use Rattle.jv_code.specs.declared.insn.Insn.TheVariants as insns
 use Rattle.jv_code.specs.declared.kinds.Computation.TheVariants as compute
@@ -16,13 +16,13 @@ use Rattle.jv_meaning_world.specs.System.Mnemonics.{iconst, bipush, aload, invok
 use Rattle.jv_meaning_world.specs.System.Throwable.{init_body as throwable_init}
 use Rattle.jv_meaning_world.specs.System.Throwables.{init_body as error_init}
 use Rattle.jv_format.specs.Handlers.{handler}
-use Rattle.jv_meaning_machine.specs.Faults.{OrFault}
+use Rattle.jv_meaning_machine.specs.Faults.{OrFault, ◌>>=◌}
 use Rattle.jv_meaning_machine.specs.Faults.Fault.{ConstructionFault}
-use Rattle.jv_meaning_machine.specs.State.{Program}
+use Rattle.jv_meaning_machine.specs.State.{Program, ThrowPlace}
 use Rattle.jv_meaning_machine.specs.State.End.{Running, Returned, Threw}
 use Rattle.jv_meaning_machine.specs.Throws.{thrown_once_more}
 use Rattle.jv_meaning_machine.specs.Observation.{Observed}
-use Rattle.jv_meaning_machine.specs.Rows.Samples.{java_lang, program_of, run_with, shown, invokestatic, getstatic, new, ldc, dup, pop, idiv, iushr, new_ints, code, method, class_with, static_int, main_name, main, only_main, run, run_text}
+use Rattle.jv_meaning_machine.specs.Rows.Samples.{java_lang, program_of, run_to, run_with, shown, invokestatic, getstatic, new, ldc, dup, pop, idiv, iushr, new_ints, code, method, class_with, static_int, main_name, main, only_main, run, run_text}
 use Rattle.jv_meaning_machine.specs.Rows.Machine.{returned, threw, calls_f}
 use Rattle.jv_meaning_machine.specs.Rows.Initialization.{clinit, divides_by_zero, E, construct_P, make_S}
 
@@ -51,15 +51,16 @@ abbrev pub writes : List ℕ → OrFault Observed
 writes output = ended 8 output 1 (codes "ArithmeticException")
 
 -- f divides by zero, and main calls it
-abbrev pub callee : List Handler → ℕ → OrFault Observed
-callee handlers n =
-    run_with
-    (program_of
+abbrev pub with_callee : List Handler → Program
+with_callee handlers =
+    program_of
     (class_with main_name object_name [] []
     (main 1 (handler 0 3 4 29 ∷ []) calls_f ∷ method 9 (codes "f") (codes "()V") (code 2 0 handlers divides_by_zero) ∷ [])
     ∷ [])
-    (calls_f ∷ divides_by_zero ∷ []))
-    main_name [] 64 n
+    (calls_f ∷ divides_by_zero ∷ [])
+
+abbrev pub callee : List Handler → ℕ → OrFault Observed
+callee handlers n = run_with (with_callee handlers) main_name [] 64 n
 
 -- the handler at 5 throws once more
 abbrev pub throws_again : List Instruction
@@ -78,7 +79,8 @@ after_array count = bipush count ∷ new_ints ∷ pop ∷ throw_null
 -- how many throws there are behind one more
 abbrev pub count_behind : ℕ → ℕ
 count_behind throws =
-    (thrown_once_more [] (record { main = []; states = []; words = 0; throws = throws; last = None; end = Running })).throws
+    (thrown_once_more [] None
+    (record { main = []; states = []; words = 0; throws = throws; last = None; place = None; end = Running })).throws
 
 pub record HandlerRows : Type 0 where
   pub any : handled (handler 0 3 5 0 ∷ []) ≡ writes (codes "A")
@@ -224,6 +226,43 @@ pub record PassedRows : Type 0 where
   pub long : with_field (field_K (codes "J") (LongValue (pos 309237645312))) 3 [] writes_upper 8 ≡ returned 8 (codes "H")
   pub literal : with_field (string_K 56) 1 (replicate 56 97) (ldc 22 ∷ pop ∷ return ∷ []) 5 ≡ returned 5 []
   pub no_cells : with_field (string_K 57) 1 [] (return ∷ []) 1 ≡ threw 1 (codes "OutOfMemoryError")
+
+-- ---- where the last throw was
+
+abbrev pub place_after : Program → ℕ → OrFault (Option ThrowPlace)
+place_after program n = run_to program main_name [] [] 64 n >>= λ s. Ok s.control.place
+
+abbrev pub at : (class method descriptor : List ℕ) → ℕ → OrFault (Option ThrowPlace)
+at class method descriptor offset =
+    Ok (Some (record { class = class; method = method; descriptor = descriptor; offset = offset }))
+
+abbrev pub in_main : ℕ → OrFault (Option ThrowPlace)
+in_main offset = at main_name (codes "main") (codes "([Ljava/lang/String;)V") offset
+
+-- main's class divides by zero in its own initialization
+abbrev pub main_fails : Program
+main_fails =
+    program_of
+    (class_with main_name object_name [] [] (main 1 [] (return ∷ []) ∷ clinit 2 divides_by_zero ∷ []) ∷ [])
+    ((return ∷ []) ∷ divides_by_zero ∷ [])
+
+pub record PlaceRows : Type 0 where
+  -- nothing was thrown yet; and then the division at 2 threw
+  pub none : place_after (program_of (only_main [] 2 [] divides ∷ []) (divides ∷ [])) 3 ≡ Ok None
+  pub division : place_after (program_of (only_main [] 2 [] divides ∷ []) (divides ∷ [])) 4 ≡ in_main 2
+  -- in the callee, though the caller caught it
+  pub callee : place_after (with_callee []) 9 ≡ at main_name (codes "f") (codes "()V") 2
+  -- a throw in a handler is a later one
+  pub again :
+      place_after (program_of (only_main [] 2 (handler 0 3 5 0 ∷ []) throws_again ∷ []) (throws_again ∷ [])) 5 ≡ in_main 5
+  -- in the initialization of E, which main's first instruction began; and what is thrown in its place is thrown there
+  pub initializer :
+      place_after (with_E_and_D 1 [] (uses 50)) 6 ≡ in_main 0
+  -- an erroneous class is asked for once more, at 6
+  pub erroneous : place_after (with_E_and_D 1 (handler 0 3 5 0 ∷ []) (uses_both 67 50)) 9 ≡ in_main 6
+  -- no instruction began main's own initialization, nor called main
+  pub main_class : place_after main_fails 4 ≡ Ok None
+  pub no_words : place_after (program_of (only_main [] 60 [] (return ∷ []) ∷ []) ((return ∷ []) ∷ [])) 1 ≡ Ok None
 
 -- ---- construction: S is below P
 

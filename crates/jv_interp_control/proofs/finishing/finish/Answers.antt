@@ -90,6 +90,7 @@ returns-in-Err-clause-refused_control g c =
       states = ap (λ (k : Control). slice_set k.states.items c.args.class c.index-state.result.now) same ∙ c.mark.ensures.back c.index-state.result.now there;
       throws = ap (λ (k : Control). k.throws) (same ∙ c.mark.ensures.control);
       last = ap (λ (k : Control). k.last) (same ∙ c.mark.ensures.control);
+      place = ap (λ (k : Control). k.place) (same ∙ c.mark.ensures.control);
       main = ap (λ (k : Control). k.main) (same ∙ c.mark.ensures.control);
       end = ap (λ (k : Control). k.end) (same ∙ c.mark.ensures.control);
     }

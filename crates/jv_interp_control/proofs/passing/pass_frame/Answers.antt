@@ -88,6 +88,7 @@ returns-in-Some-Runs c = λ program addresses frame below control h.
         states = h.control_stands.states;
         throws = h.control_stands.throws;
         last = h.control_stands.last;
+        place = h.control_stands.place;
         main = h.control_stands.main;
         end = h.control_stands.end;
       };
@@ -125,6 +126,7 @@ returns-in-Some-Initializes c = λ program addresses frame below control h.
         states = subst (λ (xs : List ClassState). AreClassStates program.world ((l.class.name, Erroneous) ∷ control.states) xs) (sym all) states;
         throws = h.control_stands.throws;
         last = h.control_stands.last;
+        place = h.control_stands.place;
         main = h.control_stands.main;
         end = h.control_stands.end;
       };

@@ -14,25 +14,25 @@ pub is_at_or_below-requires-clause-class : goal.is_at_or_below-requires-clause-c
 is_at_or_below-requires-clause-class g c =
     let w = c.requires.can in
     subst (λ (world : World). c.args.thrown.class < length world) (sym c.table.ensures)
-    (class_within c.args.classes.now.world w.program w.texts w.t w.behind w.addresses c.args.thrown c.args.held.now _ w.replacing c.system_has_numbers.ensures)
+    (class_within c.args.classes.now.world c.args.records.now c.args.passed w.program w.texts w.t w.below w.behind w.addresses c.args.thrown c.args.held.now _ w.replacing c.system_has_numbers.ensures)
 
 pub is_at_or_below-requires-clause-other : goal.is_at_or_below-requires-clause-other
 is_at_or_below-requires-clause-other g c =
     let w = c.requires.can in
     subst (λ (world : World). 6 < length world) (sym c.table.ensures)
-    (error_within c.args.classes.now.world w.program w.texts w.t w.behind w.addresses c.args.thrown c.args.held.now _ w.replacing c.system_has_numbers.ensures)
+    (error_within c.args.classes.now.world c.args.records.now c.args.passed w.program w.texts w.t w.below w.behind w.addresses c.args.thrown c.args.held.now _ w.replacing c.system_has_numbers.ensures)
 
 pub returns-then-thrown-clause-replaced : goal.returns-then-thrown-clause-replaced
-returns-then-thrown-clause-replaced g c = λ program texts t behind addresses h.
+returns-then-thrown-clause-replaced g c = λ program texts t below behind addresses h.
     let world = c.args.classes.now.world in
     elim c.then-thrown.branch [
       | then-thrown-via-then-thrown w ↦
-          stays world program texts t behind addresses c.args.thrown c.args.held.now _ h c.system_has_numbers.ensures
-          (known_error world program texts t behind addresses c.args.thrown c.args.held.now _ h c.system_has_numbers.ensures (c.requires.known w.if-thrown.true))
+          stays world c.args.records.now c.args.passed program texts t below behind addresses c.args.thrown c.args.held.now _ h c.system_has_numbers.ensures
+          (known_error world c.args.records.now c.args.passed program texts t below behind addresses c.args.thrown c.args.held.now _ h c.system_has_numbers.ensures (c.requires.known w.if-thrown.true))
       | then-thrown-via-else-thrown+then-is_at_or_below w ↦
-          stays world program texts t behind addresses c.args.thrown c.args.held.now _ h c.system_has_numbers.ensures
+          stays world c.args.records.now c.args.passed program texts t below behind addresses c.args.thrown c.args.held.now _ h c.system_has_numbers.ensures
           (sym
-          (is_test world program texts t behind addresses c.args.thrown c.args.held.now _ h c.system_has_numbers.ensures w.is_at_or_below.result
+          (is_test world c.args.records.now c.args.passed program texts t below behind addresses c.args.thrown c.args.held.now _ h c.system_has_numbers.ensures w.is_at_or_below.result
           (subst (λ (v : World). HoldsAtBoth v c.args.thrown.class 6 (λ l to. w.is_at_or_below.result ≡ is_at_or_below v l.class.name to.class.name)) w.table.ensures w.is_at_or_below.ensures))
           ∙ w.if-is_at_or_below.true)
     ]
@@ -46,29 +46,35 @@ get-class-requires g c =
     let after = g.S.Store.content c.make_exception.new.store in
     let tells = subst (λ (v : World). HoldsAtBoth v c.args.thrown.class 6 (λ l to. c.is_at_or_below.result ≡ is_at_or_below v l.class.name to.class.name)) c.table.ensures c.is_at_or_below.ensures in
     let no_error =
-    sym (is_test world w.program w.texts w.t w.behind w.addresses c.args.thrown c.args.held.now before r c.system_has_numbers.ensures c.is_at_or_below.result tells) ∙ c.if-is_at_or_below.false in
+    sym
+    (is_test world c.args.records.now c.args.passed w.program w.texts w.t w.below w.behind w.addresses c.args.thrown c.args.held.now before r
+    c.system_has_numbers.ensures c.is_at_or_below.result tells) ∙ c.if-is_at_or_below.false in
     let size = c.object_words-words.ensures w.program.world (subst (λ (v : World). IsLinked v c.args.linked.now) (sym r.world_is) c.requires.linked) in
     let is_made = subst (λ (o : Option ℕ). IsMade 23 c.object_words-words.result c.args.held.now.cells c.make_exception.new.held.cells before after o)
     c.in_default.is (c.in_ok-address.ensures {u = tt}).made in
     let there =
-    word_there world w.program w.texts w.t w.behind w.addresses c.args.thrown c.args.held.now before r c.system_has_numbers.ensures c.make_exception.new.held after c.object_words-words.result None
+    word_there world c.args.records.now c.args.passed w.program w.texts w.t w.below w.behind w.addresses c.args.thrown c.args.held.now before r
+    c.system_has_numbers.ensures c.make_exception.new.held after c.object_words-words.result None
     no_error size c.make_exception.ensures.held is_made in
     subst (λ (a : ℕ). 0 < length (words_at after a)) (sym (ap (λ (h : Held). h.out_of_memory) c.make_exception.ensures.held)) there
 
 pub returns-in_default-clause-replaced : goal.returns-in_default-clause-replaced
-returns-in_default-clause-replaced g c = λ program texts t behind addresses h.
+returns-in_default-clause-replaced g c = λ program texts t below behind addresses h.
     let world = c.args.classes.now.world in
     let before = g.S.Store.content c.args.store.now in
     let after = g.S.Store.content c.make_exception.new.store in
     let tells = subst (λ (v : World). HoldsAtBoth v c.args.thrown.class 6 (λ l to. c.is_at_or_below.result ≡ is_at_or_below v l.class.name to.class.name)) c.table.ensures c.is_at_or_below.ensures in
     let no_error =
-    sym (is_test world program texts t behind addresses c.args.thrown c.args.held.now before h c.system_has_numbers.ensures c.is_at_or_below.result tells) ∙ c.if-is_at_or_below.false in
+    sym
+    (is_test world c.args.records.now c.args.passed program texts t below behind addresses c.args.thrown c.args.held.now before h
+    c.system_has_numbers.ensures c.is_at_or_below.result tells) ∙ c.if-is_at_or_below.false in
     let size = c.object_words-words.ensures program.world (subst (λ (v : World). IsLinked v c.args.linked.now) (sym h.world_is) c.requires.linked) in
     let is_made = subst (λ (o : Option ℕ). IsMade 23 c.object_words-words.result c.args.held.now.cells c.make_exception.new.held.cells before after o)
     c.in_default.is (c.in_ok-address.ensures {u = tt}).made in
-    replaced_by world program texts t behind addresses c.args.thrown c.args.held.now before h c.system_has_numbers.ensures c.make_exception.new.held after c.object_words-words.result None
-    (record { address = c.make_exception.new.held.out_of_memory; class = c.get-class.result; throws = c.once_more-throws.result; made = false }) no_error size
-    c.make_exception.ensures.held is_made (ap (λ (h : Held). h.out_of_memory) c.make_exception.ensures.held) (sym c.get-class.ensures) c.once_more-throws.ensures
+    replaced_by world c.args.records.now c.args.passed program texts t below behind addresses c.args.thrown c.args.held.now before h
+    c.system_has_numbers.ensures c.make_exception.new.held after c.object_words-words.result None
+    (record { address = c.make_exception.new.held.out_of_memory; class = c.get-class.result; throws = c.once_more-throws.result; place = c.place_behind-place.result; made = false }) no_error size
+    c.make_exception.ensures.held is_made (ap (λ (h : Held). h.out_of_memory) c.make_exception.ensures.held) (sym c.get-class.ensures) c.once_more-throws.ensures c.place_behind-place.ensures
 
 pub returns-in_default-clause-stays : goal.returns-in_default-clause-stays
 returns-in_default-clause-stays g c =
@@ -86,20 +92,23 @@ returns-in_default-clause-stays g c =
     clash e = cc
 
 pub returns-clause-replaced : goal.returns-clause-replaced
-returns-clause-replaced g c = λ program texts t behind addresses h.
+returns-clause-replaced g c = λ program texts t below behind addresses h.
     let world = c.args.classes.now.world in
     let before = g.S.Store.content c.args.store.now in
     let after = g.S.Store.content c.make_exception.new.store in
     let tells = subst (λ (v : World). HoldsAtBoth v c.args.thrown.class 6 (λ l to. c.is_at_or_below.result ≡ is_at_or_below v l.class.name to.class.name)) c.table.ensures c.is_at_or_below.ensures in
     let no_error =
-    sym (is_test world program texts t behind addresses c.args.thrown c.args.held.now before h c.system_has_numbers.ensures c.is_at_or_below.result tells) ∙ c.if-is_at_or_below.false in
+    sym
+    (is_test world c.args.records.now c.args.passed program texts t below behind addresses c.args.thrown c.args.held.now before h
+    c.system_has_numbers.ensures c.is_at_or_below.result tells) ∙ c.if-is_at_or_below.false in
     let size = c.object_words-words.ensures program.world (subst (λ (v : World). IsLinked v c.args.linked.now) (sym h.world_is) c.requires.linked) in
     let address = c.in-Some.address in
     let is_made = subst (λ (o : Option ℕ). IsMade 23 c.object_words-words.result c.args.held.now.cells c.make_exception.new.held.cells before after o)
     c.in-Some.is (c.in_ok-address.ensures {u = tt}).made in
-    replaced_by world program texts t behind addresses c.args.thrown c.args.held.now before h c.system_has_numbers.ensures c.make_exception.new.held after c.object_words-words.result (Some address)
-    (record { address = address; class = 23; throws = c.once_more-throws.result; made = true }) no_error size
-    c.make_exception.ensures.held is_made refl (new_word 23 c.object_words-words.result address before after is_made.1) c.once_more-throws.ensures
+    replaced_by world c.args.records.now c.args.passed program texts t below behind addresses c.args.thrown c.args.held.now before h
+    c.system_has_numbers.ensures c.make_exception.new.held after c.object_words-words.result (Some address)
+    (record { address = address; class = 23; throws = c.once_more-throws.result; place = c.place_behind-place.result; made = true }) no_error size
+    c.make_exception.ensures.held is_made refl (new_word 23 c.object_words-words.result address before after is_made.1) c.once_more-throws.ensures c.place_behind-place.ensures
 
 pub returns-clause-stays : goal.returns-clause-stays
 returns-clause-stays g c = record {

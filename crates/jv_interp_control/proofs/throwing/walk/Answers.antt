@@ -65,7 +65,7 @@ replaced-requires-clause-can g c =
     let b =
     behind_it c.args.classes.now.world c.args.records.now w.program w.texts w.frames w.used w.t w.goes_to w.addresses c.args.thrown c.args.held.now
     (g.S.Store.content c.args.store.now) w.walking c.loop-passed.passed c.loop-passed.now c.loop-passed.held (g.S.Store.content c.loop-passed.store) walked c.in-Initializes._own at in
-    record { program = w.program; texts = w.texts; t = _; behind = b.behind; addresses = _; replacing = b.replacing }
+    record { program = w.program; texts = w.texts; t = _; below = _; behind = b.behind; addresses = _; replacing = b.replacing }
 
 pub returns-clause-lands : goal.returns-clause-lands
 returns-clause-lands g c = λ program texts frames used t goes_to addresses h.
@@ -131,7 +131,7 @@ loop-passed-preserved g c =
                 c.loop-passed.held (g.S.Store.content c.loop-passed.store) walked w.in-Initializes._own at in
                 passes_initialization world all program texts frames used t goes_to addresses c.args.thrown c.args.held.now blocks h k
                 c.loop-passed.now c.loop-passed.held (g.S.Store.content c.loop-passed.store) walked w.in-Initializes._own at
-                next w.replaced.new.held (g.S.Store.content w.replaced.new.store) (e.replaced program texts _ b.behind _ b.replacing);
+                next w.replaced.new.held (g.S.Store.content w.replaced.new.store) (e.replaced program texts _ _ b.behind _ b.replacing);
             known = e.known;
             held_stays =
                 λ un. let before = unmade c.loop-passed.now.made next.made e.stays.made_stays un in e.stays.held_stays (un ∙ sym before) ∙ inv.held_stays before;
