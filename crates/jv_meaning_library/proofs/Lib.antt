@@ -1,0 +1,16 @@
+mod Worlds
+mod Chains
+mod Loading
+mod Searching
+mod Answers
+mod Steps
+mod Frames
+mod Operands
+mod Rules
+mod Maps
+mod Typings
+mod Verdicts
+mod Naming
+mod Given
+mod Standing
+mod Worked
