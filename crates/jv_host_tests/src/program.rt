@@ -501,8 +501,8 @@ static RAW: [Row; 6] = [
     },
 ];
 
-/// Reports in JSON.
-static JSON: [Row; 3] = [
+/// Reports in JSON, and one with the place of a throw.
+static JSON: [Row; 5] = [
     Row {
         words: "jvhost run --json hi",
         input: b"",
@@ -523,6 +523,29 @@ static JSON: [Row; 3] = [
         out: [
             "{\"end\":\"Running\",\"files\":[{\"file\":\"P.class\",\"verdict\":\"Accepted\"}],\"folder\":\"p\",\"guest\":1,",
             "\"output\":\"A\\\\xff\\\\xff\\\\xff\\\\xff\",\"output_base64\":\"Qf////8=\",\"steps\":16,\"throws\":0}\n",
+        ],
+        err: Some(""),
+    },
+    // An exception is told with its place.
+    Row {
+        words: "jvhost run --json --output 1 hi",
+        input: b"",
+        good: 0,
+        status: 0,
+        out: [
+            "{\"end\":\"Threw\",\"files\":[{\"file\":\"Hi.class\",\"verdict\":\"Accepted\"}],\"folder\":\"hi\",\"guest\":1,\"last\":\"java/lang/OutOfMemoryError\",\"output\":\"H\",",
+            "\"place\":{\"class\":\"Hi\",\"descriptor\":\"([Ljava/lang/String;)V\",\"method\":\"main\",\"offset\":7},\"steps\":5,\"threw\":\"java/lang/OutOfMemoryError\",\"throws\":1}\n",
+        ],
+        err: Some(""),
+    },
+    Row {
+        words: "jvhost run --where --output 1 hi",
+        input: b"",
+        good: 0,
+        status: 0,
+        out: [
+            "guest 1 hi\n  Hi.class: Accepted\n  steps 5\n  throws 1 last java/lang/OutOfMemoryError at Hi.main:([Ljava/lang/String;)V",
+            " offset 7\n  output 1: H\n  end Threw java/lang/OutOfMemoryError\n",
         ],
         err: Some(""),
     },

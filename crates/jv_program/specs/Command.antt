@@ -29,6 +29,7 @@ settings_of options = record {
   stdin = options.stdin;
   raw = options.raw;
   json = options.json;
+  places = options.places;
 }
 
 -- ---- what there is to read

@@ -40,6 +40,7 @@ fn settings_of(options: RunOptions) -> RunSettings
         stdin: options.stdin,
         raw: options.raw,
         json: options.json,
+        places: options.places,
     }
 }
 

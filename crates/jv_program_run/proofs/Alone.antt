@@ -129,7 +129,7 @@ module _ (one : ShowsOneThing) where
   -- what is said of the guests of such a host
   pub said : {E : Type 0} (s : RunSettings) (brought : List Brought) (host : List Admission) (all : List Told)
       → AreAllowed (budget_of s.budget) (map named_guest_of brought) (length brought) → AreReportsOn (map named_guest_of brought) host (length brought) all
-      → {lent : List Told} → lent ≡ all → (result : Result Outcome E) → IfOk result (λ outcome. string_bytes outcome.report ≡ run_report s.json lent)
+      → {lent : List Told} → lent ≡ all → (result : Result Outcome E) → IfOk result (λ outcome. string_bytes outcome.report ≡ run_report s.json s.places lent)
       → IfOk result (λ outcome. raw_bytes outcome ≡ raw_output s.raw lent) → IfOk result (λ outcome. outcome.status ≡ run_status lent)
       → IfOk result (λ outcome. (before after : Option (List ℕ)) → HasRun s (map named_guest_of brought) before after host
       → IsRunOutcome s (map named_guest_of brought) before after outcome)
@@ -149,7 +149,7 @@ module _ (one : ShowsOneThing) where
         (none_told all (λ place t found. is_over host place t (ran.full early) (reports.each place t found).shown));
     needed = λ some.
         were_needed s.quantum ran.rounds (map named_guest_of brought) host (length brought) all reports (all_there s brought before after host ran) (ran.needed some);
-    report = subst (λ (ts : List Told). string_bytes outcome.report ≡ run_report s.json ts) same report;
+    report = subst (λ (ts : List Told). string_bytes outcome.report ≡ run_report s.json s.places ts) same report;
     raw = subst (λ (ts : List Told). raw_bytes outcome ≡ raw_output s.raw ts) same raw;
     status = subst (λ (ts : List Told). outcome.status ≡ run_status ts) same status;
   }

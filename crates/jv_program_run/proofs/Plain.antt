@@ -1,17 +1,34 @@
 -- Reports in JSON have no floating point.
 use Rattle.std.proofs.Common.{ℕ, List, [], ◌∷◌, All, Option, Some, None, codes, map, refl}
 use Rattle.std.proofs.lemmas.List.Elements.{All-cons, All-nil}
-use Rattle.serde_json.specs.Data.{Members, no_members}
-use Rattle.jv_meaning_machine.specs.State.{End}
+use Rattle.serde_json.specs.Data.{Members, no_members, object}
+use Rattle.jv_meaning_machine.specs.State.{ThrowPlace, End}
 use Rattle.jv_meaning_machine.specs.State.End.{Running, Returned, Threw, NoMain}
 use Rattle.jv_json.specs.Members.{with_bytes, with_number, with_text}
-use Rattle.jv_json.proofs.Plain.{ArePlain, IsPlain, bytes_plain, number_plain, text_plain, with_files_plain}
-use Rattle.jv_program_run.specs.Json.{guest_members, told_value, with_ending, with_last}
+use Rattle.jv_json.proofs.Plain.{ArePlain, IsPlain, bytes_plain, number_plain, put_plain, text_plain, with_files_plain}
+use Rattle.jv_program_run.specs.Json.{guest_members, told_value, place_members, with_ending, with_last, with_line, with_place}
 use Rattle.jv_program_run.specs.Report.{Told}
 
 last_plain : (last : Option (List ℕ)) (before : Members) → ArePlain before → ArePlain (with_last last before)
 last_plain None before are = are
 last_plain (Some name) before are = bytes_plain (codes "last") name before are
+
+members_plain : (p : ThrowPlace) → ArePlain (place_members p)
+members_plain p =
+    let class = with_bytes (codes "class") p.class no_members in
+    let method = with_bytes (codes "method") p.method class in
+    number_plain (codes "offset") p.offset (with_bytes (codes "descriptor") p.descriptor method)
+    (bytes_plain (codes "descriptor") p.descriptor method
+    (bytes_plain (codes "method") p.method class (bytes_plain (codes "class") p.class no_members refl)))
+
+line_plain : (line : Option ℕ) (before : Members) → ArePlain before → ArePlain (with_line line before)
+line_plain None before are = are
+line_plain (Some n) before are = number_plain (codes "line") n before are
+
+place_plain : (place : Option ThrowPlace) (line : Option ℕ) (before : Members) → ArePlain before → ArePlain (with_place place line before)
+place_plain None line before are = are
+place_plain (Some p) line before are =
+    put_plain (codes "place") (object (with_line line (place_members p))) before (line_plain line (place_members p) (members_plain p)) are
 
 ending_plain : (end : End) (before : Members) → ArePlain before → ArePlain (with_ending end before)
 ending_plain Running before are = text_plain (codes "end") (codes "Running") before are
@@ -31,10 +48,12 @@ told_plain t =
     let steps = with_number (codes "steps") t.seen.steps (guest_members t) in
     let throws = with_number (codes "throws") t.seen.throws steps in
     let last = with_last t.seen.last throws in
-    ending_plain t.seen.end (with_bytes (codes "output") t.seen.output last)
-    (bytes_plain (codes "output") t.seen.output last
+    let place = with_place t.seen.place t.line last in
+    ending_plain t.seen.end (with_bytes (codes "output") t.seen.output place)
+    (bytes_plain (codes "output") t.seen.output place
+    (place_plain t.seen.place t.line last
     (last_plain t.seen.last throws
-    (number_plain (codes "throws") t.seen.throws steps (number_plain (codes "steps") t.seen.steps (guest_members t) (guest_plain t)))))
+    (number_plain (codes "throws") t.seen.throws steps (number_plain (codes "steps") t.seen.steps (guest_members t) (guest_plain t))))))
 
 pub all_plain : (told : List Told) → All IsPlain (map told_value told)
 all_plain [] = All-nil IsPlain

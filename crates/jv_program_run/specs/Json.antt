@@ -1,7 +1,7 @@
 -- The report on guests as JSON (own).
 use Rattle.std.specs.Prelude.{ℕ, Bool, List, Option, Some, None, codes, map, if◌then◌else◌}
-use Rattle.serde_json.specs.Data.{Data, Members, no_members, object}
-use Rattle.jv_meaning_machine.specs.State.{End}
+use Rattle.serde_json.specs.Data.{Data, Members, no_members, object, put}
+use Rattle.jv_meaning_machine.specs.State.{ThrowPlace, End}
 use Rattle.jv_meaning_machine.specs.State.End.{Running, Returned, Threw, NoMain}
 use Rattle.jv_meaning_machine.specs.Observation.{Observed}
 use Rattle.jv_json.specs.Files.{with_files}
@@ -14,6 +14,22 @@ abbrev pub with_last : Option (List ℕ) → Members → Members
 with_last None members = members
 with_last (Some name) members = with_bytes (codes "last") name members
 
+-- the place where it was thrown, where that was in a method
+abbrev pub place_members : ThrowPlace → Members
+place_members p =
+    with_number (codes "offset") p.offset
+    (with_bytes (codes "descriptor") p.descriptor
+    (with_bytes (codes "method") p.method (with_bytes (codes "class") p.class no_members)))
+
+-- and the line of source, where there is one
+abbrev pub with_line : Option ℕ → Members → Members
+with_line None members = members
+with_line (Some line) members = with_number (codes "line") line members
+
+abbrev pub with_place : Option ThrowPlace → (line : Option ℕ) → Members → Members
+with_place None line members = members
+with_place (Some p) line members = put (codes "place") (object (with_line line (place_members p))) members
+
 -- how a guest ended, and of an exception that left `main` the class
 abbrev pub with_ending : End → Members → Members
 with_ending Running members = with_text (codes "end") (codes "Running") members
@@ -22,11 +38,12 @@ with_ending (Threw name) members = with_bytes (codes "threw") name (with_text (c
 with_ending NoMain members = with_text (codes "end") (codes "NoMain") members
 
 -- what a guest showed, but for its verdicts
-abbrev pub with_seen : Observed → Members → Members
-with_seen seen members =
+abbrev pub with_seen : Observed → (line : Option ℕ) → Members → Members
+with_seen seen line members =
     with_ending seen.end
     (with_bytes (codes "output") seen.output
-    (with_last seen.last (with_number (codes "throws") seen.throws (with_number (codes "steps") seen.steps members))))
+    (with_place seen.place line
+    (with_last seen.last (with_number (codes "throws") seen.throws (with_number (codes "steps") seen.steps members)))))
 
 -- which guest it is, and its class files, each with its verdict
 abbrev pub guest_members : Told → Members
@@ -35,8 +52,8 @@ guest_members told =
     (with_bytes (codes "folder") told.word (with_number (codes "guest") told.number no_members))
 
 abbrev pub told_value : Told → Data
-told_value told = object (with_seen told.seen (guest_members told))
+told_value told = object (with_seen told.seen told.line (guest_members told))
 
--- the report: in JSON a line for each guest
-abbrev pub run_report : (json : Bool) → List Told → List ℕ
-run_report json told = if json then json_lines (map told_value told) else report_text told
+-- the report: in JSON a line for each guest, with the place of its last throw; else lines, with the place or without
+abbrev pub run_report : (json places : Bool) → List Told → List ℕ
+run_report json places told = if json then json_lines (map told_value told) else report_text places told

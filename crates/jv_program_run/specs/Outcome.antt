@@ -66,7 +66,7 @@ pub record IsRunOutcome (s : RunSettings) (guests : List NamedGuest) (before aft
       → IsToldOf s feeds rounds place named t
   pub full : rounds < s.rounds → run_status told ≡ 0
   pub needed : 1 ≤ s.quantum → WereNeeded s.quantum rounds told
-  pub report : string_bytes outcome.report ≡ run_report s.json told
+  pub report : string_bytes outcome.report ≡ run_report s.json s.places told
   pub raw : raw_bytes outcome ≡ raw_output s.raw told
   pub status : outcome.status ≡ run_status told
 

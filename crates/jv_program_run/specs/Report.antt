@@ -3,18 +3,20 @@ use Rattle.std.specs.Prelude.{ℕ, ◌-◌, Bool, true, false, List, [], ◌∷�
 use Rattle.std.specs.List.{flat_map, list_any}
 use Rattle.std.specs.Fmt.{decimal}
 use Rattle.jv_meaning_typing.specs.declared.verdict.Verdict.{Verdict}
-use Rattle.jv_meaning_machine.specs.State.{End}
+use Rattle.jv_meaning_machine.specs.State.{ThrowPlace, End}
 use Rattle.jv_meaning_machine.specs.State.End.{Running, Returned, Threw, NoMain}
 use Rattle.jv_meaning_machine.specs.Observation.{Observed}
 use Rattle.jv_program_base.specs.Escape.{escaped_text}
 use Rattle.jv_program_base.specs.Verdict.{verdict_text}
 
--- What is told of a guest: its number, the word for its folder, the names of its class files, and what it showed.
+-- What is told of a guest: its number, the word for its folder, the names of its class files, and what it showed; and the line of source
+-- where the last throw was, as a file of its may say it (4.7.12), which no definition here speaks of.
 pub record Told : Type 0 where
   pub number : ℕ
   pub word : List ℕ
   pub names : List (List ℕ)
   pub seen : Observed
+  pub line : Option ℕ
 
 -- the line of a class file
 abbrev pub verdict_line : List ℕ → Verdict → List ℕ
@@ -29,10 +31,24 @@ verdict_lines _ _ = []
 abbrev pub heading_text : ℕ → List ℕ → List ℕ
 heading_text number word = decimal number ++ codes " " ++ escaped_text word
 
--- how often something was thrown, and the class of what was thrown last
-abbrev pub throws_text : ℕ → Option (List ℕ) → List ℕ
-throws_text count None = decimal count
-throws_text count (Some name) = decimal count ++ codes " last " ++ escaped_text name
+-- an instruction's class, method and offset
+abbrev pub place_text : ThrowPlace → List ℕ
+place_text p =
+    escaped_text p.class ++ codes "." ++ escaped_text p.method ++ codes ":" ++ escaped_text p.descriptor
+    ++ codes " offset " ++ decimal p.offset
+
+abbrev pub line_text : Option ℕ → List ℕ
+line_text None = []
+line_text (Some line) = codes " line " ++ decimal line
+
+abbrev pub at_text : Option ThrowPlace → (line : Option ℕ) → List ℕ
+at_text None line = []
+at_text (Some p) line = codes " at " ++ place_text p ++ line_text line
+
+-- how often something was thrown, and of what was thrown last the class, and the place and the line where these are told
+abbrev pub throws_text : ℕ → Option (List ℕ) → Option ThrowPlace → (line : Option ℕ) → List ℕ
+throws_text count None place line = decimal count
+throws_text count (Some name) place line = decimal count ++ codes " last " ++ escaped_text name ++ at_text place line
 
 -- what a guest wrote; with nothing, no space follows the colon
 unfoldable pub output_text : List ℕ → List ℕ
@@ -49,19 +65,19 @@ ending_text NoMain = codes "NoMain"
 abbrev pub labelled_line : List ℕ → List ℕ → List ℕ
 labelled_line label text = label ++ text ++ 10 ∷ []
 
--- the lines on a guest
-unfoldable pub told_text : Told → List ℕ
-told_text told =
+-- the lines on a guest, with the place of the last throw or without
+unfoldable pub told_text : (places : Bool) → Told → List ℕ
+told_text places told =
     labelled_line (codes "guest ") (heading_text told.number told.word)
     ++ verdict_lines told.names told.seen.verdicts
     ++ labelled_line (codes "  steps ") (decimal told.seen.steps)
-    ++ labelled_line (codes "  throws ") (throws_text told.seen.throws told.seen.last)
+    ++ labelled_line (codes "  throws ") (throws_text told.seen.throws told.seen.last (if places then told.seen.place else None) told.line)
     ++ labelled_line (codes "  output ") (output_text told.seen.output)
     ++ labelled_line (codes "  end ") (ending_text told.seen.end)
 
 -- the report: the lines on each guest
-abbrev pub report_text : List Told → List ℕ
-report_text told = flat_map told_text told
+abbrev pub report_text : (places : Bool) → List Told → List ℕ
+report_text places told = flat_map (told_text places) told
 
 -- ---- what a guest wrote, as it is
 

@@ -2,13 +2,13 @@
 ghost use Rattle.std.specs.Prelude.{◌≡◌, IfOk, OnOk, codes, map, string_bytes};
 ghost use Rattle.std.specs.Option.{option_map};
 ghost use Rattle.serde_json.specs.View.{members_view, view};
-ghost use Rattle.jv_host.specs.Showing.{bytes_seen, observed_of, seen_end};
+ghost use Rattle.jv_host.specs.Showing.{bytes_seen, observed_of, seen_end, seen_place};
 ghost use Rattle.jv_json.specs.Members.{with_number};
 ghost use Rattle.jv_program_run.specs.Inside.Play.{told_of};
-ghost use Rattle.jv_program_run.specs.Json.{guest_members, run_report, told_value, with_ending, with_last, with_seen};
+ghost use Rattle.jv_program_run.specs.Json.{guest_members, place_members, run_report, told_value, with_ending, with_last, with_line, with_place, with_seen};
 
 use crate::report::{Report, Reports};
-use jv_host::{GuestEnd, Observation};
+use jv_host::{GuestEnd, Observation, ThrowPlace};
 use jv_json::{json_lines, put_bytes, put_files, put_number, put_text};
 use serde_json::{Map, Value};
 use std::alloc::{AllocError, Global};
@@ -24,6 +24,52 @@ fn put_last(
 {
     match last {
         Some(name) => put_bytes(members, alloc, "last", name),
+        None => Ok(()),
+    }
+}
+
+/// The members of a place.
+fn place_members(alloc: Global, place: ThrowPlace<'_>) -> Result<Map<String, Value>, AllocError>
+    ensures { IfOk result (λ members. members_view members.entries ≡ place_members (seen_place place.entry)) }
+{
+    let mut members = Map::new(alloc);
+    put_bytes(&mut members, alloc, "class", place.class)?;
+    put_bytes(&mut members, alloc, "method", place.method)?;
+    put_bytes(&mut members, alloc, "descriptor", place.descriptor)?;
+    put_number(&mut members, alloc, "offset", u64::from(place.offset))?;
+    Ok(members)
+}
+
+/// Puts the line of source of a place, where there is one.
+fn put_line(
+    members: &mut Map<String, Value>,
+    alloc: Global,
+    line: Option<u16>,
+) -> Result<(), AllocError>
+    ensures { OnOk result (members_view members.new.entries ≡ with_line line (members_view members.old.entries)) }
+{
+    match line {
+        Some(line) => put_number(members, alloc, "line", u64::from(line)),
+        None => Ok(()),
+    }
+}
+
+/// Puts where the last object was thrown, where that was in a method.
+fn put_place(
+    members: &mut Map<String, Value>,
+    alloc: Global,
+    place: Option<ThrowPlace<'_>>,
+    line: Option<u16>,
+) -> Result<(), AllocError>
+    ensures { OnOk result (members_view members.new.entries
+        ≡ with_place (option_map seen_place place.entry) line (members_view members.old.entries)) }
+{
+    match place {
+        Some(place) => {
+            let mut its = place_members(alloc, place)?;
+            put_line(&mut its, alloc, line)?;
+            serde_json::put(members, alloc, "place", Value::Object(its))
+        }
         None => Ok(()),
     }
 }
@@ -47,19 +93,21 @@ fn put_ending(
     }
 }
 
-/// Puts how many steps a guest took, and how often something was thrown.
+/// Puts how many steps a guest took, how often something was thrown, and what was thrown last, and where.
 fn put_counts(
     members: &mut Map<String, Value>,
     alloc: Global,
     seen: &Observation<'_>,
+    line: Option<u16>,
 ) -> Result<(), AllocError>
     ensures { OnOk result (members_view members.new.entries
-        ≡ with_last (observed_of seen.now).last (with_number (codes "throws") seen.now.throws
-        (with_number (codes "steps") seen.now.steps (members_view members.old.entries)))) }
+        ≡ with_place (observed_of seen.now).place line (with_last (observed_of seen.now).last (with_number (codes "throws") seen.now.throws
+        (with_number (codes "steps") seen.now.steps (members_view members.old.entries))))) }
 {
     put_number(members, alloc, "steps", seen.steps)?;
     put_number(members, alloc, "throws", seen.throws)?;
-    put_last(members, alloc, seen.last)
+    put_last(members, alloc, seen.last)?;
+    put_place(members, alloc, seen.place, line)
 }
 
 /// Puts what a guest showed, but for its verdicts.
@@ -67,10 +115,11 @@ fn put_seen(
     members: &mut Map<String, Value>,
     alloc: Global,
     seen: &Observation<'_>,
+    line: Option<u16>,
 ) -> Result<(), AllocError>
-    ensures { OnOk result (members_view members.new.entries ≡ with_seen (observed_of seen.now) (members_view members.old.entries)) }
+    ensures { OnOk result (members_view members.new.entries ≡ with_seen (observed_of seen.now) line (members_view members.old.entries)) }
 {
-    put_counts(members, alloc, seen)?;
+    put_counts(members, alloc, seen, line)?;
     put_bytes(members, alloc, "output", seen.output)?;
     put_ending(members, alloc, seen.end)
 }
@@ -91,7 +140,7 @@ fn told_value(alloc: Global, report: &Report<'_>) -> Result<Value, AllocError>
     ensures { IfOk result (λ value. view value ≡ told_value (told_of report.now)) }
 {
     let mut members = guest_members(alloc, report)?;
-    put_seen(&mut members, alloc, &report.seen)?;
+    put_seen(&mut members, alloc, &report.seen, report.line)?;
     Ok(Value::Object(members))
 }
 
@@ -111,14 +160,15 @@ fn told_values(alloc: Global, reports: &[Report<'_>]) -> Result<Vec<Value>, Allo
 pub(crate) fn run_report(
     alloc: Global,
     json: bool,
+    places: bool,
     reports: &[Report<'_>],
 ) -> Result<String, AllocError>
-    ensures { IfOk result (λ report. string_bytes report ≡ run_report json (map told_of reports.now)) }
+    ensures { IfOk result (λ report. string_bytes report ≡ run_report json places (map told_of reports.now)) }
 {
     if json {
         let values = told_values(alloc, reports)?;
         json_lines(alloc, values.as_slice())
     } else {
-        Reports(reports).to_string(alloc)
+        Reports { places, reports }.to_string(alloc)
     }
 }

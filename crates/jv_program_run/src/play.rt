@@ -15,7 +15,10 @@ use crate::report::Report;
 use crate::rounds::run_rounds;
 use crate::settings::RunSettings;
 use jv_host::{Budget, GuestId, Host, Observation, Watch};
+use jv_lines::line_of;
 use jv_meaning_machine::shows_one_thing;
+use jv_meaning_typing::Verdict;
+use jv_meaning_world::LoadVerdict;
 use jv_program_base::Failure;
 use jv_store::Cells;
 use std::alloc::{AllocError, Global};
@@ -109,8 +112,52 @@ pub(crate) fn observation_of<'h>(host: &'h Host<'_, Cells>, id: GuestId) -> Obse
     seen
 }
 
-/// The report on a guest of the host.
-fn report_on<'h>(host: &'h Host<'_, Cells>, guest: &'h Brought<'_>, place: u32) -> Report<'h>
+/// Whether a file with this verdict holds a class that others can name.
+fn is_there(verdict: Verdict) -> bool {
+    !matches!(
+        verdict,
+        Verdict::Refused(
+            LoadVerdict::Version
+                | LoadVerdict::Format
+                | LoadVerdict::Unsupported
+                | LoadVerdict::Reserved
+                | LoadVerdict::Duplicate
+        )
+    )
+}
+
+/// The line of source of the place of the last throw, where the file of its class says it. Nothing is promised of it.
+fn line_at(alloc: Global, guest: &Brought<'_>, seen: &Observation<'_>) -> Option<u16> {
+    let place = seen.place?;
+    let Ok(offset) = u16::try_from(place.offset) else {
+        return None;
+    };
+    for (file, verdict) in guest.files.as_slice().iter().zip(seen.verdicts) {
+        if is_there(*verdict) {
+            let line = line_of(
+                alloc,
+                file,
+                place.class,
+                place.method,
+                place.descriptor,
+                offset,
+            );
+            if line.is_some() {
+                return line;
+            }
+        }
+    }
+    None
+}
+
+/// The report on a guest of the host, with the line of its last throw or without.
+fn report_on<'h>(
+    alloc: Global,
+    host: &'h Host<'_, Cells>,
+    guest: &'h Brought<'_>,
+    place: u32,
+    lines: bool,
+) -> Report<'h>
     requires few { place < 64 }
     requires there { IsSome (slice_get host.now place) }
     ensures number { result.number ≡ place + 1 }
@@ -118,19 +165,27 @@ fn report_on<'h>(host: &'h Host<'_, Cells>, guest: &'h Brought<'_>, place: u32) 
     ensures names { (told_of result).names ≡ (named_guest_of guest.now).names }
     ensures shown { IsShown host.now place (told_of result).seen }
 {
+    let seen = observation_of(host, GuestId(place));
+    let line = if lines {
+        line_at(alloc, guest, &seen)
+    } else {
+        None
+    };
     Report {
         number: place + 1,
         word: guest.word,
         names: guest.names.as_slice(),
-        seen: observation_of(host, GuestId(place)),
+        seen,
+        line,
     }
 }
 
-/// The reports on the guests of a host.
+/// The reports on the guests of a host, with the lines of last throws or without.
 pub(crate) fn reports_on<'h>(
     alloc: Global,
     host: &'h Host<'_, Cells>,
     guests: &'h [Brought<'_>],
+    lines: bool,
 ) -> Result<Vec<Report<'h>>, AllocError>
     requires few { length guests.now ≤ 64 }
     requires there { length host.now ≡ length guests.now }
@@ -139,7 +194,7 @@ pub(crate) fn reports_on<'h>(
 {
     let mut reports = Vec::new(alloc);
     for place in 0..guests.len() {
-        let report = report_on(host, &guests[place], place as u32);
+        let report = report_on(alloc, host, &guests[place], place as u32, lines);
         reports.push(report)?;
     }
     Ok(reports)

@@ -1,14 +1,14 @@
 //! The report on guests.
-ghost use Rattle.std.specs.Prelude.{◌≡◌, Some, map};
+ghost use Rattle.std.specs.Prelude.{◌≡◌, None, Some, if◌then◌else◌, map};
 ghost use Rattle.std.specs.List.{list_any};
 ghost use Rattle.std.specs.Option.{option_map};
-ghost use Rattle.jv_host.specs.Showing.{bytes_seen, seen_end};
+ghost use Rattle.jv_host.specs.Showing.{bytes_seen, seen_end, seen_place};
 ghost use Rattle.jv_limits.specs.Bytes.{bytes_of};
-ghost use Rattle.jv_program_run.specs.Report.{ending_text, heading_text, output_text, throws_text, verdict_line, verdict_lines};
+ghost use Rattle.jv_program_run.specs.Report.{at_text, ending_text, heading_text, line_text, output_text, throws_text, verdict_line, verdict_lines};
 ghost use Rattle.jv_program_run.specs.Report.{is_running, report_text, run_status, told_text};
 ghost use Rattle.jv_program_run.specs.Inside.Play.{told_of};
 
-use jv_host::{GuestEnd, Observation};
+use jv_host::{GuestEnd, Observation, ThrowPlace};
 use jv_meaning_typing::Verdict;
 use jv_program_base::{Escaped, ShownVerdict};
 use std::fmt;
@@ -24,11 +24,23 @@ pub struct Report<'a> {
     pub names: &'a [&'a [u8]],
     /// What it showed.
     pub seen: Observation<'a>,
+    /// The line of source of its last throw, where a file of its says it.
+    pub line: Option<u16>,
 }
 
-/// Reports, one behind the other.
+/// Reports, one behind the other, with the places of last throws or without.
 #[derive(Clone, Copy)]
-pub(crate) struct Reports<'a>(pub(crate) &'a [Report<'a>]);
+pub(crate) struct Reports<'a> {
+    pub(crate) places: bool,
+    pub(crate) reports: &'a [Report<'a>],
+}
+
+/// The report on a guest as it is printed, with the place of its last throw or without.
+#[derive(Clone, Copy)]
+struct ReportLines<'a> {
+    places: bool,
+    report: &'a Report<'a>,
+}
 
 /// The line of a class file: its name and its verdict.
 #[derive(Clone, Copy)]
@@ -51,11 +63,23 @@ struct Heading<'a> {
     word: &'a [u8],
 }
 
-/// How often something was thrown, and what was thrown last.
+/// The line of source of a place, where there is one.
+#[derive(Clone, Copy)]
+struct Line(Option<u16>);
+
+/// Where something was thrown, where that is told, and the line of source, where there is one.
+#[derive(Clone, Copy)]
+struct At<'a> {
+    place: Option<ThrowPlace<'a>>,
+    line: Option<u16>,
+}
+
+/// How often something was thrown, what was thrown last, and where, where that is told.
 #[derive(Clone, Copy)]
 struct Throws<'a> {
     count: u64,
     last: Option<&'a [u8]>,
+    at: At<'a>,
 }
 
 /// What a guest wrote: how many bytes, and which.
@@ -123,15 +147,46 @@ impl fmt::Display for Heading<'_> {
     }
 }
 
+impl fmt::Display for Line {
+    ghost output = { λ line. Some (line_text line.0) };
+
+    fn fmt<W: fmt::Write>(&self, f: &mut fmt::Formatter<W>) -> fmt::Result {
+        match self.0 {
+            Some(line) => write!(f, " line {line}"),
+            None => Ok(()),
+        }
+    }
+}
+
+impl fmt::Display for At<'_> {
+    ghost output = { λ at. Some (at_text (option_map seen_place at.place) at.line) };
+
+    fn fmt<W: fmt::Write>(&self, f: &mut fmt::Formatter<W>) -> fmt::Result {
+        match self.place {
+            Some(place) => {
+                let class = Escaped(place.class);
+                let method = Escaped(place.method);
+                let descriptor = Escaped(place.descriptor);
+                let offset = place.offset;
+                let line = Line(self.line);
+                write!(f, " at {class}.{method}:{descriptor} offset {offset}{line}")
+            }
+            None => Ok(()),
+        }
+    }
+}
+
 impl fmt::Display for Throws<'_> {
-    ghost output = { λ throws. Some (throws_text throws.count (option_map bytes_seen throws.last)) };
+    ghost output = { λ throws. Some (throws_text throws.count (option_map bytes_seen throws.last)
+        (option_map seen_place throws.at.place) throws.at.line) };
 
     fn fmt<W: fmt::Write>(&self, f: &mut fmt::Formatter<W>) -> fmt::Result {
         let count = self.count;
         match self.last {
             Some(name) => {
                 let name = Escaped(name);
-                write!(f, "{count} last {name}")
+                let at = self.at;
+                write!(f, "{count} last {name}{at}")
             }
             None => write!(f, "{count}"),
         }
@@ -168,25 +223,38 @@ impl fmt::Display for Ending<'_> {
     }
 }
 
-impl fmt::Display for Report<'_> {
-    ghost output = { λ report. Some (told_text (told_of report)) };
+/// The place of a throw, where places are told.
+fn place_told(places: bool, place: Option<ThrowPlace<'_>>) -> Option<ThrowPlace<'_>>
+    ensures { option_map seen_place result ≡ (if places then option_map seen_place place.entry else None) }
+{
+    if places { place } else { None }
+}
+
+impl fmt::Display for ReportLines<'_> {
+    ghost output = { λ lines. Some (told_text lines.places (told_of lines.report.now)) };
 
     fn fmt<W: fmt::Write>(&self, f: &mut fmt::Formatter<W>) -> fmt::Result {
+        let report = self.report;
+        let seen = report.seen;
         let heading = Heading {
-            number: self.number,
-            word: self.word,
+            number: report.number,
+            word: report.word,
         };
         let lines = VerdictLines {
-            names: self.names,
-            verdicts: self.seen.verdicts,
+            names: report.names,
+            verdicts: seen.verdicts,
         };
-        let steps = self.seen.steps;
+        let steps = seen.steps;
         let throws = Throws {
-            count: self.seen.throws,
-            last: self.seen.last,
+            count: seen.throws,
+            last: seen.last,
+            at: At {
+                place: place_told(self.places, seen.place),
+                line: report.line,
+            },
         };
-        let output = Output(self.seen.output);
-        let end = Ending(self.seen.end);
+        let output = Output(seen.output);
+        let end = Ending(seen.end);
         write!(
             f,
             "guest {heading}\n{lines}  steps {steps}\n  throws {throws}\n  output {output}\n  end {end}\n"
@@ -195,12 +263,16 @@ impl fmt::Display for Report<'_> {
 }
 
 impl fmt::Display for Reports<'_> {
-    ghost output = { λ reports. Some (report_text (map told_of reports.0.now)) };
+    ghost output = { λ all. Some (report_text all.places (map told_of all.reports.now)) };
 
     fn fmt<W: fmt::Write>(&self, f: &mut fmt::Formatter<W>) -> fmt::Result {
-        let reports = self.0;
+        let reports = self.reports;
         for report in reports {
-            write!(f, "{report}")?;
+            let lines = ReportLines {
+                places: self.places,
+                report,
+            };
+            write!(f, "{lines}")?;
         }
         Ok(())
     }

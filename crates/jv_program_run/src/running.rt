@@ -47,11 +47,12 @@ fn outcome_of(
     settings: RunSettings,
 ) -> Result<Outcome, AllocError>
     requires { is_no_guest settings.raw (length reports.now) ≡ false }
-    ensures report { IfOk result (λ outcome. string_bytes outcome.report ≡ run_report settings.json (map told_of reports.now)) }
+    ensures report { IfOk result (λ outcome.
+        string_bytes outcome.report ≡ run_report settings.json settings.places (map told_of reports.now)) }
     ensures raw { IfOk result (λ outcome. raw_bytes outcome ≡ raw_output settings.raw (map told_of reports.now)) }
     ensures status { IfOk result (λ outcome. outcome.status ≡ run_status (map told_of reports.now)) }
 {
-    let report = run_report(alloc, settings.json, reports)?;
+    let report = run_report(alloc, settings.json, settings.places, reports)?;
     let raw = raw_output(alloc, reports, settings.raw)?;
     let status = status_after(reports);
     Ok(Outcome {
@@ -77,7 +78,7 @@ fn said_of(
         → IsRunOutcome settings (map named_guest_of guests.now) before after outcome) }
 {
     shows_one_thing();
-    let reports = reports_on(alloc, host, guests)?;
+    let reports = reports_on(alloc, host, guests, settings.json || settings.places)?;
     outcome_of(alloc, reports.as_slice(), settings)
 }
 

@@ -18,4 +18,6 @@ pub struct RunSettings {
     pub raw: Option<u32>,
     /// Whether the report is JSON.
     pub json: bool,
+    /// Whether a report that isn't JSON has the place of a guest's last throw.
+    pub places: bool,
 }

@@ -1,6 +1,6 @@
 -- The command line (own), as a simple command of the library `clap`, which reads it:
 --     jvhost run [--library FOLDER] [--cells N] [--words N] [--output N] [--quantum N] [--rounds N] [--stdin K] [--raw K] [--json]
---         [--progress] [--time] FOLDER...
+--         [--where] [--progress] [--time] FOLDER...
 --     jvhost check [--library FOLDER] [--json] FILE...
 --     jvhost explain [--library FOLDER] [--json] [--links] FILE...
 use Rattle.std.specs.Prelude.{ℕ, true, List, Some, codes, pos}
@@ -66,9 +66,13 @@ with_form line = with_rule line (flag (codes "json"))
 abbrev pub with_links : App → App
 with_links line = with_rule line (flag (codes "links"))
 
--- with which guest is fed, which one's output is written as it is, and whether the report is JSON
+-- with which guest is fed, and which one's output is written as it is
 abbrev pub with_streams : App → App
-with_streams line = with_form (with_guest (codes "raw") (with_guest (codes "stdin") line))
+with_streams line = with_guest (codes "raw") (with_guest (codes "stdin") line)
+
+-- with whether the report has the places of last throws
+abbrev pub with_places : App → App
+with_places line = with_rule line (flag (codes "where"))
 
 -- with whether it is told how far the run is, and how long the processor took
 abbrev pub with_company : App → App
@@ -76,7 +80,8 @@ with_company line = with_rule (with_rule line (flag (codes "progress"))) (flag (
 
 abbrev pub run_line : App
 run_line =
-    with_company (with_streams (with_steps (with_budget (with_names (codes "folder") (new_app (codes "run"))))))
+    with_company
+    (with_places (with_form (with_streams (with_steps (with_budget (with_names (codes "folder") (new_app (codes "run"))))))))
 
 abbrev pub check_line : App
 check_line = with_form (with_names (codes "file") (new_app (codes "check")))

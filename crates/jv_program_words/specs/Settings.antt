@@ -17,7 +17,7 @@ use Rattle.jv_program_words.specs.declared.asked.Settings.{Settings}
 use Rattle.jv_program_words.specs.declared.asked.Settings.TheVariants as settings
 
 -- 65,536 cells, words and bytes of output, and 10,000 rounds of turns of 1,000 steps; no guest is fed, no output written as it is, the
--- report is no JSON, and nothing told besides
+-- report is no JSON and has no places, and nothing told besides
 abbrev pub usual_options : RunOptions
 usual_options = record {
   cells = 65536;
@@ -28,6 +28,7 @@ usual_options = record {
   stdin = None;
   raw = None;
   json = false;
+  places = false;
   progress = false;
   time = false;
 }
@@ -68,8 +69,8 @@ is_set (Some text) = bytes_eq text (codes "true")
 abbrev pub is_flag_in : List Row → (name : List ℕ) → Bool
 is_flag_in rows name = is_set (one_of name rows)
 
--- what each guest may use, how many steps it gets, which is fed, which one's output is written as it is, whether the report is JSON, and
--- what is told besides, as the rows of a command's arguments have it
+-- what each guest may use, how many steps it gets, which is fed, which one's output is written as it is, whether the report is JSON or
+-- has places, and what is told besides, as the rows of a command's arguments have it
 abbrev pub options_in : List Row → Option RunOptions
 options_in rows =
     number_in rows (codes "cells") usual_options.cells 0 >>= λ cells.
@@ -88,6 +89,7 @@ options_in rows =
       stdin = stdin;
       raw = raw;
       json = is_flag_in rows (codes "json");
+      places = is_flag_in rows (codes "where");
       progress = is_flag_in rows (codes "progress");
       time = is_flag_in rows (codes "time");
     })

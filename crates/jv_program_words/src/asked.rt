@@ -3,7 +3,7 @@ ghost use Rattle.std.specs.Prelude.{◌≡◌};
 ghost use Rattle.jv_program_words.specs.Settings.{usual_options};
 
 /// What each guest may use, how many steps it gets, which guest is fed, which one's output is written as it is, whether the report is JSON,
-/// and what is told besides.
+/// or has the places of last throws, and what is told besides.
 #[derive(Clone, Copy)]
 pub struct RunOptions {
     /// The cells of each guest's objects.
@@ -22,6 +22,8 @@ pub struct RunOptions {
     pub raw: Option<u32>,
     /// Whether the report is JSON.
     pub json: bool,
+    /// Whether a report that isn't JSON has the places of last throws.
+    pub places: bool,
     /// Whether it is told how far the run is.
     pub progress: bool,
     /// Whether it is told how long the processor took.
@@ -61,6 +63,7 @@ pub fn usual_options() -> RunOptions
         stdin: None,
         raw: None,
         json: false,
+        places: false,
         progress: false,
         time: false,
     }

@@ -145,6 +145,11 @@ fn run_line<'a>(alloc: Global) -> Result<Command<'a>, AllocError>
         json(alloc),
         flag(
             alloc,
+            "where",
+            "Reports where each guest's last throw was: class, method, offset",
+        ),
+        flag(
+            alloc,
             "progress",
             "Tells once a second how far the run is, where standard error is a terminal",
         ),

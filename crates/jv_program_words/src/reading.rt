@@ -66,6 +66,7 @@ fn options_in(found: &ArgMatches<'_>) -> Option<RunOptions>
     let stdin = guest_in(found, "stdin")?;
     let raw = guest_in(found, "raw")?;
     let json = is_set(found, "json");
+    let places = is_set(found, "where");
     let progress = is_set(found, "progress");
     let time = is_set(found, "time");
     Some(RunOptions {
@@ -77,6 +78,7 @@ fn options_in(found: &ArgMatches<'_>) -> Option<RunOptions>
         stdin,
         raw,
         json,
+        places,
         progress,
         time,
     })

@@ -50,6 +50,7 @@ told_of report = record {
   word = report.word.now;
   names = map bytes_of report.names.now;
   seen = observed_of report.seen;
+  line = report.line;
 }
 
 -- the report is on what the guest at a place shows

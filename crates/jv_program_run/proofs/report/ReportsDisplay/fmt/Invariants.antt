@@ -6,4 +6,4 @@ use Rattle.jv_program_run.proofs.report.ReportsDisplay.fmt.Given as goal
 
 abbrev pub invariant-loop-report : goal.invariant-loop-report
 invariant-loop-report g l =
-    IsPlainFormatter l.initial.f → HasWritten g.W.Write.write_str_gives l.initial.f (report_text (map told_of (take l.report-index l.reports))) l.f
+    IsPlainFormatter l.initial.f → HasWritten g.W.Write.write_str_gives l.initial.f (report_text l.self.places (map told_of (take l.report-index l.reports))) l.f
