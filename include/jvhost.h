@@ -59,12 +59,12 @@ enum jvhost_code {
     JVHOST_TOO_MANY_GUESTS = 10,     /* a host holds at most 64 guests */
     JVHOST_HOST_MEMORY = 11,         /* malloc or realloc refused */
     JVHOST_WRONG_SIZE = 12,          /* a field `size` is not that of the struct: header and library are of different versions */
-    JVHOST_NO_ROOM = 13,             /* jvhost_check: there is room for fewer verdicts than there are files */
+    JVHOST_NO_ROOM = 13,             /* jvhost_check, .._beside: there is room for fewer verdicts than there are files */
     JVHOST_WRONG_VERDICT = 14,       /* jvhost_verdict_text: no call of this library tells such a verdict */
     JVHOST_NULL_BYTES = 15,          /* jvhost_admit_copy: a null pointer to bytes of some length */
     JVHOST_NO_RANDOM = 16,           /* the system gave no random bytes for hashing (getrandom) */
     JVHOST_OLD_PROCESSOR = 17,       /* the processor lacks what the library was compiled for: x86-64-v2 (SSE4.2, POPCNT, SSSE3) */
-    JVHOST_LIBRARY_BROKEN = 18,      /* jvhost_admit: a class of the library is not accepted beside the guest's files */
+    JVHOST_LIBRARY_BROKEN = 18,      /* jvhost_admit, .._beside: a class of the library is not accepted beside the guest's files */
     JVHOST_NO_LIBRARY = 19           /* jvhost_new_with_library: the files are no library; the fault says why */
 };
 
@@ -234,8 +234,8 @@ uint32_t jvhost_turn(jvhost_t *host, uint32_t id, uint32_t steps, uint64_t *take
  * only where all guests have ended. JVHOST_NO_HOST. */
 uint32_t jvhost_run(jvhost_t *host, uint32_t steps, uint32_t rounds, uint32_t *taken);
 
-/* The bytes join behind the guest's input: it can read them from its next step on. They are copied; no bytes are no feed. JVHOST_NO_HOST,
- * JVHOST_NO_GUEST, JVHOST_INPUT_TOO_LONG, JVHOST_HOST_MEMORY, which may come before JVHOST_NO_GUEST and JVHOST_INPUT_TOO_LONG. */
+/* The bytes join behind the guest's input: it can read them from its next step on. They are copied, once; no bytes are no feed. Refused by
+ * the first of JVHOST_NO_HOST, JVHOST_NO_GUEST, JVHOST_INPUT_TOO_LONG and JVHOST_HOST_MEMORY that applies. */
 uint32_t jvhost_feed(jvhost_t *host, uint32_t id, const uint8_t *bytes, size_t length);
 
 /* ---- what a guest shows */
@@ -257,6 +257,20 @@ uint32_t jvhost_end_class(jvhost_t *host, uint32_t id, uint8_t *room, size_t roo
 
 /* The verdict on one of its files, the first at 0. JVHOST_NO_HOST, JVHOST_NO_GUEST, JVHOST_NO_FILE. Takes no memory. */
 uint32_t jvhost_verdict(jvhost_t *host, uint32_t id, size_t file, jvhost_verdict_t *verdict);
+
+/* ---- a guest that is judged and not kept, on the library of a host; the host is as it was */
+
+/* Judges files as those of one guest of the host, and runs nothing: verdicts[i] is that on file i, beside the host's library, if it has one.
+ * The host's guests are not looked at. `room` is how many verdicts there is room for. Refused by the first of JVHOST_NO_HOST,
+ * JVHOST_NO_FILES, JVHOST_TOO_MANY_FILES, JVHOST_FILE_TOO_LONG, JVHOST_NO_ROOM, JVHOST_LIBRARY_BROKEN and JVHOST_HOST_MEMORY that
+ * applies. */
+uint32_t jvhost_check_beside(jvhost_t *host, const jvhost_bytes *files, size_t file_count, jvhost_verdict_t *verdicts, size_t room);
+
+/* One guest in one call, on the library of the host: it is admitted to a host of its own, so that it takes none of the 64 places, takes at
+ * most so many steps, and is seen; `output` has the front of what it wrote, as much as fits. What `guest` leads to has to stay for this
+ * call alone. Refused as by jvhost_admit, and for jvhost_seen's size. */
+uint32_t jvhost_judge_beside(jvhost_t *host, const jvhost_guest *guest, uint32_t steps, jvhost_seen *seen, uint8_t *output,
+                             size_t output_length);
 
 /* ---- without a host: any thread, at any time */
 

@@ -44,6 +44,10 @@ static int whole_life(uint32_t *refused) {
         code = jvhost_check_seeded(1, 2, hi.files, hi.count, &verdict, 1);
     if (code == JVHOST_OK)
         code = jvhost_judge_seeded(1, 2, &guest, 100, &seen, room, sizeof room);
+    if (code == JVHOST_OK)
+        code = jvhost_check_beside(&host, hi.files, hi.count, &verdict, 1);
+    if (code == JVHOST_OK)
+        code = jvhost_judge_beside(&host, &guest, 100, &seen, room, sizeof room);
     jvhost_free(&host);
     CHECK(host.host.holds == 0 && host.copies == NULL);
     *refused = code;

@@ -1,6 +1,7 @@
-/* Refused memory: each call of malloc or realloc fails once, in turn, while two guests are admitted, fed and run. After a refusal both show
- * what they showed; the call is made again, and in the end they show what they show where nothing fails. Use: refused FOLDER, where
- * FOLDER holds Echo.class. With glibc. */
+/* Refused memory: each call of malloc or realloc fails once, in turn, while two guests are admitted, fed and run, and others judged beside
+ * them. After a refusal both show what they showed; the call is made again, and in the end they show what they show where nothing fails.
+ * Use: refused FOLDER [LIBRARY], where FOLDER holds Echo.class; with the class files of a library the host stands on it, and of the calls
+ * each 997th fails. With glibc. */
 #define _GNU_SOURCE
 #include "check.h"
 #include "failing.h"
@@ -17,7 +18,7 @@ struct shown {
     jvhost_verdict_t verdict;
 };
 
-static struct folder echo;
+static struct folder echo, library;
 static uint32_t admitted;
 static unsigned long refused;
 
@@ -54,19 +55,29 @@ static int show_alike(const struct shown *one, const struct shown *other) {
         CHECK(code == JVHOST_OK);                            \
     } while (0)
 
+static uint32_t begin(jvhost_t *host) {
+    jvhost_library_fault fault = {sizeof fault, 0, 0};
+    if (library.count == 0)
+        return jvhost_new_seeded(host, 1, 2);
+    return jvhost_new_with_library_seeded(host, 1, 2, library.files, library.count, &fault);
+}
+
 /* What the guests show when both have echoed what they were fed. */
 static void live(struct shown *end) {
     static const char *const lines[] = {"one, ", "eins, ", "two", "zwei", ".", "."};
     jvhost_t host = {{NULL, NULL, 0}, NULL};
     jvhost_guest guest = jvhost_guest_of(echo.files, echo.count, "Echo", NULL, 0);
-    jvhost_verdict_t verdict;
+    jvhost_verdict_t verdict = {7, 7, 7, 7};
+    jvhost_seen seen;
+    uint8_t room[ROOM];
     uint32_t id, rounds;
     uint64_t taken;
+    seen.size = sizeof seen;
     admitted = 0;
-    uint32_t code = jvhost_new_seeded(&host, 1, 2);
+    uint32_t code = begin(&host);
     if (code == JVHOST_HOST_MEMORY) {
         refused++;
-        code = jvhost_new_seeded(&host, 1, 2);
+        code = begin(&host);
     }
     CHECK(code == JVHOST_OK);
     DO(jvhost_admit(&host, &guest, &id));
@@ -80,23 +91,33 @@ static void live(struct shown *end) {
         DO(jvhost_run(&host, 1000, 1, &rounds));
     }
     DO(jvhost_check_seeded(1, 2, echo.files, echo.count, &verdict, 1));
+    CHECK(verdict.kind == JVHOST_VERDICT_ACCEPTED);
+    verdict.kind = 7;
+    DO(jvhost_check_beside(&host, echo.files, echo.count, &verdict, 1));
+    CHECK(verdict.kind == JVHOST_VERDICT_ACCEPTED);
+    guest.input = jvhost_bytes_of("three.", 6);
+    DO(jvhost_judge_beside(&host, &guest, 1000, &seen, room, ROOM));
+    CHECK(seen.output == 5 && memcmp(room, "three", 5) == 0 && seen.end == JVHOST_END_RETURNED);
     look(&host, end);
     jvhost_free(&host);
 }
 
 int main(int argc, char **argv) {
     struct shown whole[GUESTS], end[GUESTS];
-    if (argc != 2)
+    if (argc != 2 && argc != 3)
         return 2;
     read_folder(argv[1], &echo);
-    if (echo.count != 1)
+    if (argc == 3)
+        read_folder(argv[2], &library);
+    if (echo.count != 1 || (argc == 3 && library.count == 0))
         return 2;
     live(whole);
     CHECK(whole[0].length == 8 && memcmp(whole[0].output, "one, two", 8) == 0);
     CHECK(whole[1].length == 10 && memcmp(whole[1].output, "eins, zwei", 10) == 0);
     CHECK(whole[0].seen.end == JVHOST_END_RETURNED && whole[1].seen.end == JVHOST_END_RETURNED);
     unsigned long places = 0;
-    for (int failed = 1; failed; places += (unsigned long)failed) {
+    unsigned long stride = library.count == 0 ? 1 : 997;
+    for (int failed = 1; failed; places += failed ? stride : 0) {
         left = (long)places;
         live(end);
         failed = left < 0;
@@ -105,5 +126,6 @@ int main(int argc, char **argv) {
     }
     printf("%lu places where memory is asked for, %lu calls refused, %d wrong\n", places, refused, wrong);
     free_folder(&echo);
+    free_folder(&library);
     return wrong != 0;
 }

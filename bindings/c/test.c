@@ -1,8 +1,9 @@
-/* A test of each function of jvhost.h, and of each misuse that a call can see. Use: test FOLDER, where FOLDER holds Hi.class. */
+/* A test of each function of jvhost.h, and of each misuse that a call can see. Use: test FOLDER [LIBRARY PROGRAM], where FOLDER holds
+ * Hi.class, and PROGRAM holds a program that runs on the library of the class files in LIBRARY. */
 #include "check.h"
 #include "folder.h"
 
-static struct folder hi;
+static struct folder hi, library, program;
 
 static jvhost_guest hi_guest(void) {
     return jvhost_guest_of(hi.files, hi.count, "Hi", NULL, 0);
@@ -163,6 +164,129 @@ static void alone(void) {
     CHECK(jvhost_judge(&guest, 1000, &seen, room, 3) == JVHOST_WRONG_SIZE && seen.size == 0);
 }
 
+/* A guest that is judged beside a host's library, and not kept: without a library as without a host; and each misuse. */
+static void beside(void) {
+    static const uint8_t one[1] = {0};
+    static uint8_t bytes[4096];
+    static jvhost_bytes many[1025];
+    jvhost_t host = {{NULL, NULL, 0}, NULL};
+    jvhost_guest guest = hi_guest();
+    jvhost_seen seen = unseen(), before = seen, kept = seen;
+    uint8_t room[4] = "xxx";
+    uint32_t id;
+    uint64_t taken;
+    jvhost_verdict_t verdicts[3] = {{7, 7, 7, 7}, {7, 7, 7, 7}, {7, 7, 7, 7}};
+    jvhost_bytes files[3], longer = {one, 4194305};
+    files[0] = hi.files[0];
+    files[1] = jvhost_bytes_of(bytes, broken_hi(bytes));
+    files[2] = jvhost_bytes_of(NULL, 0);
+    for (size_t i = 0; i < 1025; i++)
+        many[i] = hi.files[0];
+
+    /* a handle that holds no host */
+    CHECK(jvhost_check_beside(&host, files, 3, verdicts, 3) == JVHOST_NO_HOST && verdicts[0].kind == 7);
+    CHECK(jvhost_check_beside(&host, files, 0, verdicts, 0) == JVHOST_NO_HOST);
+    CHECK(jvhost_judge_beside(&host, &guest, 1000, &seen, room, 3) == JVHOST_NO_HOST);
+    guest.size = 0;
+    CHECK(jvhost_judge_beside(&host, &guest, 1000, &seen, room, 3) == JVHOST_WRONG_SIZE);
+    guest = hi_guest();
+    CHECK(memcmp(&seen, &before, sizeof seen) == 0 && memcmp(room, "xxx", 3) == 0);
+
+    /* a full host: what is judged takes no place, and its guests are as they were */
+    CHECK(jvhost_new(&host) == JVHOST_OK);
+    for (int i = 0; i < 64; i++)
+        CHECK(jvhost_admit(&host, &guest, &id) == JVHOST_OK);
+    CHECK(jvhost_turn(&host, 63, 2, &taken) == JVHOST_OK && jvhost_observe(&host, 63, &kept) == JVHOST_OK);
+    CHECK(jvhost_check_beside(&host, files, 3, verdicts, 3) == JVHOST_OK);
+    CHECK(verdicts[0].kind == JVHOST_VERDICT_ACCEPTED && verdicts[1].kind == JVHOST_VERDICT_DUPLICATE);
+    CHECK(verdicts[2].kind == JVHOST_VERDICT_FORMAT);
+    CHECK(jvhost_check_beside(&host, files + 1, 1, verdicts, 3) == JVHOST_OK && verdicts[1].kind == JVHOST_VERDICT_DUPLICATE);
+    CHECK(verdicts[0].kind == JVHOST_VERDICT_VERIFY && verdicts[0].method == 0 && verdicts[0].offset == 2 && verdicts[0].rule == 6);
+    CHECK(jvhost_judge_beside(&host, &guest, 1000, &seen, room, 3) == JVHOST_OK && memcmp(room, "Hix", 3) == 0);
+    CHECK(seen.size == sizeof seen && seen.steps == 6 && seen.throws == 0 && seen.output == 2 && seen.verdicts == 1);
+    CHECK(seen.end == JVHOST_END_RETURNED);
+    CHECK(jvhost_judge_beside(&host, &guest, 3, &seen, room, 0) == JVHOST_OK && seen.steps == 3 && seen.end == JVHOST_END_RUNNING);
+    CHECK(jvhost_judge_beside(&host, &guest, 1000, &seen, room, 1) == JVHOST_OK && seen.output == 2 && memcmp(room, "Hix", 3) == 0);
+
+    /* what is refused, the first reason first */
+    verdicts[0].kind = 7;
+    CHECK(jvhost_check_beside(&host, many, 0, verdicts, 1) == JVHOST_NO_FILES);
+    CHECK(jvhost_check_beside(&host, many, 1025, verdicts, 1) == JVHOST_TOO_MANY_FILES);
+    CHECK(jvhost_check_beside(&host, &longer, 1, verdicts, 0) == JVHOST_FILE_TOO_LONG);
+    CHECK(jvhost_check_beside(&host, many, 2, verdicts, 1) == JVHOST_NO_ROOM && verdicts[0].kind == 7);
+    seen = before;
+    guest.size++;
+    CHECK(jvhost_judge_beside(&host, &guest, 1000, &seen, room, 3) == JVHOST_WRONG_SIZE);
+    guest = hi_guest();
+    seen.size = 0;
+    CHECK(jvhost_judge_beside(&host, &guest, 1000, &seen, room, 3) == JVHOST_WRONG_SIZE && seen.size == 0);
+    seen = before;
+    guest.file_count = 0;
+    CHECK(jvhost_judge_beside(&host, &guest, 1000, &seen, room, 3) == JVHOST_NO_FILES);
+    guest.files = many;
+    guest.file_count = 1025;
+    CHECK(jvhost_judge_beside(&host, &guest, 1000, &seen, room, 3) == JVHOST_TOO_MANY_FILES);
+    guest.files = &longer;
+    guest.file_count = 1;
+    CHECK(jvhost_judge_beside(&host, &guest, 1000, &seen, room, 3) == JVHOST_FILE_TOO_LONG);
+    guest = hi_guest();
+    guest.input.length = 16777217;
+    CHECK(jvhost_judge_beside(&host, &guest, 1000, &seen, room, 3) == JVHOST_INPUT_TOO_LONG);
+    guest = hi_guest();
+    guest.cells = 63;
+    CHECK(jvhost_judge_beside(&host, &guest, 1000, &seen, room, 3) == JVHOST_BUDGET_OUT_OF_RANGE);
+    CHECK(memcmp(&seen, &before, sizeof seen) == 0 && memcmp(room, "Hix", 3) == 0);
+    CHECK(jvhost_observe(&host, 63, &seen) == JVHOST_OK && memcmp(&seen, &kept, sizeof seen) == 0);
+    jvhost_free(&host);
+    verdicts[0].kind = 7;
+    CHECK(jvhost_check_beside(&host, files, 1, verdicts, 1) == JVHOST_NO_HOST && verdicts[0].kind == 7);
+}
+
+/* Verdicts and a judge beside a library: as of a guest of the same host; and a library that doesn't stand. */
+static void beside_library(void) {
+    jvhost_t host = {{NULL, NULL, 0}, NULL};
+    jvhost_library_fault fault = {sizeof fault, 7, 7};
+    jvhost_seen seen = unseen(), other = unseen();
+    static uint8_t room[65536], other_room[65536];
+    uint32_t id, rounds;
+    size_t count = 0;
+    jvhost_verdict_t verdict = {7, 7, 7, 7};
+    jvhost_guest guest = jvhost_guest_of(program.files, program.count, program.main, program.input.bytes, program.input.length);
+    CHECK(jvhost_new_with_library(&host, library.files, library.count, &fault) == JVHOST_OK);
+    CHECK(jvhost_check(program.files, 1, &verdict, 1) == JVHOST_OK && verdict.kind != JVHOST_VERDICT_ACCEPTED);
+    CHECK(jvhost_check_beside(&host, program.files, 1, &verdict, 1) == JVHOST_OK && verdict.kind == JVHOST_VERDICT_ACCEPTED);
+    CHECK(jvhost_judge_beside(&host, &guest, 10000000, &seen, room, sizeof room) == JVHOST_OK && seen.end == JVHOST_END_RETURNED);
+    CHECK(jvhost_admit(&host, &guest, &id) == JVHOST_OK && id == 0 && jvhost_run(&host, 10000000, 1, &rounds) == JVHOST_OK);
+    CHECK(jvhost_observe(&host, 0, &other) == JVHOST_OK && other.steps == seen.steps && other.throws == seen.throws);
+    CHECK(other.output == seen.output && other.verdicts == seen.verdicts && other.end == seen.end && seen.output > 0);
+    CHECK(jvhost_output(&host, 0, 0, other_room, sizeof other_room, &count) == JVHOST_OK && count == seen.output);
+    CHECK(memcmp(room, other_room, count) == 0);
+    CHECK(jvhost_judge(&guest, 10000000, &other, room, 0) == JVHOST_OK && other.steps != seen.steps);
+    jvhost_free(&host);
+
+    /* without a class that others stand on */
+    struct folder *fewer = (struct folder *)calloc(1, sizeof *fewer);
+    if (fewer == NULL)
+        return;
+    for (size_t i = 0; i < library.count; i++)
+        if (strncmp(library.names[i], "java.util.AbstractMap", 21) != 0)
+            fewer->files[fewer->count++] = library.files[i];
+    CHECK(fewer->count < library.count);
+    CHECK(jvhost_new_with_library(&host, fewer->files, fewer->count, &fault) == JVHOST_OK);
+    verdict.kind = 7;
+    seen = other = unseen();
+    guest = hi_guest();
+    CHECK(jvhost_check_beside(&host, hi.files, 1, &verdict, 1) == JVHOST_LIBRARY_BROKEN && verdict.kind == 7);
+    CHECK(jvhost_check_beside(&host, hi.files, 1, &verdict, 0) == JVHOST_NO_ROOM);
+    CHECK(jvhost_judge_beside(&host, &guest, 10, &seen, room, 1) == JVHOST_LIBRARY_BROKEN && memcmp(&seen, &other, sizeof seen) == 0);
+    guest.cells = 1;
+    CHECK(jvhost_judge_beside(&host, &guest, 10, &seen, room, 1) == JVHOST_BUDGET_OUT_OF_RANGE);
+    guest = hi_guest();
+    CHECK(jvhost_admit(&host, &guest, &id) == JVHOST_LIBRARY_BROKEN);
+    jvhost_free(&host);
+    free(fewer);
+}
+
 /* Each misuse of a call on a handle gives its code, and nothing is written. */
 static void no_host(void) {
     jvhost_t host = {{NULL, NULL, 0}, NULL};
@@ -318,10 +442,14 @@ static void no_library(void) {
 }
 
 int main(int argc, char **argv) {
-    if (argc == 2)
+    if (argc == 2 || argc == 4)
         read_folder(argv[1], &hi);
-    if (hi.count != 1) {
-        fprintf(stderr, "use: %s FOLDER, where FOLDER holds Hi.class\n", argv[0]);
+    if (argc == 4) {
+        read_folder(argv[2], &library);
+        read_folder(argv[3], &program);
+    }
+    if (hi.count != 1 || (argc == 4 && (library.count == 0 || program.count != 1))) {
+        fprintf(stderr, "use: %s FOLDER [LIBRARY PROGRAM], where FOLDER holds Hi.class, and PROGRAM one class file\n", argv[0]);
         return 2;
     }
     texts();
@@ -332,7 +460,12 @@ int main(int argc, char **argv) {
     no_host();
     misuses();
     no_library();
+    beside();
+    if (argc == 4)
+        beside_library();
     free_folder(&hi);
+    free_folder(&library);
+    free_folder(&program);
     printf("%d wrong\n", wrong);
     return wrong != 0;
 }

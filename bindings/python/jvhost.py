@@ -11,6 +11,7 @@ What a host shows of a guest is proved (docs/EMBEDDING.md); this file is not, an
 """
 import ctypes
 import enum
+import functools
 import os
 from typing import Iterable, List, NamedTuple, Optional, Union
 
@@ -188,6 +189,8 @@ def _declared():
         ("verdict_text", u32, [pointer, pointer, size, pointer]),
         ("check", u32, [pointer, size, pointer, size]),
         ("judge", u32, [pointer, u32, pointer, pointer, size]),
+        ("check_beside", u32, [pointer, pointer, size, pointer, size]),
+        ("judge_beside", u32, [pointer, pointer, u32, pointer, pointer, size]),
     ):
         function = getattr(library, "jvhost_" + name)
         function.restype, function.argtypes = result, words
@@ -226,17 +229,24 @@ def version() -> str:
 
 def check(files: Iterable[bytes]) -> List[Verdict]:
     """The verdicts on files as those of one guest; nothing runs. May be called from any thread."""
-    kept = [bytes(it) for it in files]
-    told = (_Verdict * max(len(kept), 1))()
-    _want_ok(_library.jvhost_check(_listed(kept), len(kept), told, len(kept)))
-    return [_verdict(it) for it in told[: len(kept)]]
+    return _checked(_library.jvhost_check, files)
 
 
 def judge(files: Iterable[bytes], main: Name, data: bytes = b"", steps: int = 10_000_000, budget: Budget = Budget()) -> Observation:
     """What one guest, alone, shows after at most so many steps. May be called from any thread."""
-    guest, seen = _guest(files, main, data, budget), _Seen(ctypes.sizeof(_Seen))
-    room = ctypes.create_string_buffer(max(budget.output, 1))
-    _want_ok(_library.jvhost_judge(ctypes.byref(guest), steps, ctypes.byref(seen), room, budget.output))
+    return _judged(_library.jvhost_judge, _guest(files, main, data, budget), steps)
+
+
+def _checked(call, files: Iterable[bytes]) -> List[Verdict]:
+    kept = [bytes(it) for it in files]
+    told = (_Verdict * max(len(kept), 1))()
+    _want_ok(call(_listed(kept), len(kept), told, len(kept)))
+    return [_verdict(it) for it in told[: len(kept)]]
+
+
+def _judged(call, guest: _Guest, steps: int) -> Observation:
+    seen, room = _Seen(ctypes.sizeof(_Seen)), ctypes.create_string_buffer(max(guest.output, 1))
+    _want_ok(call(ctypes.byref(guest), steps, ctypes.byref(seen), room, guest.output))
     return Observation(seen.steps, seen.throws, room.raw[: seen.output], End(seen.end), [], None, None)
 
 
@@ -284,6 +294,17 @@ class Host:
 
     def __exit__(self, *_: object) -> None:
         self.close()
+
+    def check(self, files: Iterable[bytes]) -> List[Verdict]:
+        """The verdicts on files as those of one guest, beside the host's library; nothing runs, and the host is as it was."""
+        return _checked(functools.partial(_library.jvhost_check_beside, ctypes.byref(self._handle)), files)
+
+    def judge(self, files: Iterable[bytes], main: Name, data: bytes = b"", steps: int = 10_000_000,
+              budget: Budget = Budget()) -> Observation:
+        """What one guest, alone on the host's library, shows after at most so many steps. The host is as it was, and the guest is none of
+        its 64."""
+        call = functools.partial(_library.jvhost_judge_beside, ctypes.byref(self._handle))
+        return _judged(call, _guest(files, main, data, budget), steps)
 
     def admit(self, files: Iterable[bytes], main: Name, data: bytes = b"", budget: Budget = Budget()) -> int:
         """Judges the files of a guest and admits it, at its start: its number. The bytes are copied."""

@@ -49,11 +49,26 @@ def main():
         except jvhost.LibraryError as error:
             assert (error.fault.name, error.file, error.code) == (fault, 0, jvhost.Code.NO_LIBRARY)
     folder = os.path.join(root, "library", "classes")
-    with jvhost.Host(library=[read(folder, name) for name in sorted(os.listdir(folder))]) as host:
+    library = {name: read(folder, name) for name in sorted(os.listdir(folder))}
+    maze = read(root, "examples", "library", "maze", "Maze.class")
+    with jvhost.Host(library=library.values()) as host:
+        assert jvhost.check([maze])[0].kind == jvhost.Kind.VERIFY and host.check([maze])[0].kind == jvhost.Kind.ACCEPTED
+        judged = host.judge([maze, b""], "Maze", read(root, "examples", "library", "maze", "input"))
+        assert (judged.end, judged.verdicts, judged.last) == (jvhost.End.RETURNED, [], None) and judged.output != b""
+        assert host.judge([maze], "Maze", steps=3).steps == 3
+        assert raises(jvhost.Code.NO_FILES, host.check, []) and raises(jvhost.Code.NO_FILES, host.judge, [], "Maze")
+        assert raises(jvhost.Code.NO_GUEST, host.observe, 0)
         sums = os.path.join(root, "examples", "library", "sums")
         host.admit([read(sums, "Sums.class")], "Sums", read(sums, "input"))
         host.run(1_000, 10_000)
         assert host.observe(0).end == jvhost.End.RETURNED and host.observe(0).output != b""
+    assert raises(jvhost.Code.NO_HOST, host.check, [hi]) and raises(jvhost.Code.NO_HOST, host.judge, [hi], "Hi")
+    with jvhost.Host(library=[it for name, it in library.items() if not name.startswith("java.util.AbstractMap")]) as host:
+        for call, words in ((host.check, [[hi]]), (host.judge, [[hi], "Hi"]), (host.admit, [[hi], "Hi"])):
+            assert raises(jvhost.Code.LIBRARY_BROKEN, call, *words)
+    with jvhost.Host() as host:
+        assert [str(it) for it in host.check([hi, b"", hi])] == ["Accepted", "Format", "Duplicate"]
+        assert host.judge([hi], "Hi") == jvhost.judge([hi], "Hi")
     thrower = jvhost.Host()
     guest = thrower.admit([read(root, "crates", "embed_host", "data", "Echo.class"), b""], "None")
     assert thrower.observe(guest).end == jvhost.End.NO_MAIN

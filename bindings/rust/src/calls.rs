@@ -80,4 +80,13 @@ extern "C" {
     pub fn jvhost_verdict_text(verdict: *const Verdict, room: *mut u8, room_length: usize, length: *mut usize) -> u32;
     pub fn jvhost_check(files: *const Bytes, file_count: usize, verdicts: *mut Verdict, room: usize) -> u32;
     pub fn jvhost_judge(guest: *const Guest, steps: u32, seen: *mut Seen, output: *mut u8, output_length: usize) -> u32;
+    pub fn jvhost_check_beside(host: *mut Handle, files: *const Bytes, file_count: usize, verdicts: *mut Verdict, room: usize) -> u32;
+    pub fn jvhost_judge_beside(
+        host: *mut Handle,
+        guest: *const Guest,
+        steps: u32,
+        seen: *mut Seen,
+        output: *mut u8,
+        output_length: usize,
+    ) -> u32;
 }

@@ -311,18 +311,32 @@ fn unseen() -> calls::Seen {
 
 /// The verdicts on files as those of one guest; nothing runs.
 pub fn check(files: &[&[u8]]) -> Result<Vec<Verdict>, Error> {
+    // SAFETY: the list and what it leads to, and the room for verdicts, are as long as the call is told.
+    checked(files, |listed, count, told, room| unsafe { calls::jvhost_check(listed, count, told, room) })
+}
+
+fn checked(
+    files: &[&[u8]],
+    call: impl FnOnce(*const calls::Bytes, usize, *mut calls::Verdict, usize) -> u32,
+) -> Result<Vec<Verdict>, Error> {
     let listed: Vec<calls::Bytes> = files.iter().map(|it| told_bytes(it)).collect();
     let mut told = vec![calls::Verdict::default(); listed.len()];
-    // SAFETY: the list and what it leads to, and the room for verdicts, are as long as the call is told.
-    want_ok(unsafe { calls::jvhost_check(listed.as_ptr(), listed.len(), told.as_mut_ptr(), told.len()) })?;
+    want_ok(call(listed.as_ptr(), listed.len(), told.as_mut_ptr(), told.len()))?;
     Ok(told.into_iter().map(Verdict::of).collect())
 }
 
 /// What one guest, alone, shows after at most so many steps.
 pub fn judge(guest: &Guest<'_>, steps: u32) -> Result<Observation, Error> {
-    let (mut seen, mut output) = (unseen(), vec![0; guest.output.min(1_048_576) as usize]);
     // SAFETY: what is told of the guest is borrowed until the call returns, and the room is as long as the call is told.
-    want_ok(guest.told(|told| unsafe { calls::jvhost_judge(told, steps, &mut seen, output.as_mut_ptr(), output.len()) }))?;
+    judged(guest, |told, seen, output, room| unsafe { calls::jvhost_judge(told, steps, seen, output, room) })
+}
+
+fn judged(
+    guest: &Guest<'_>,
+    call: impl FnOnce(*const calls::Guest, *mut calls::Seen, *mut u8, usize) -> u32,
+) -> Result<Observation, Error> {
+    let (mut seen, mut output) = (unseen(), vec![0; guest.output.min(1_048_576) as usize]);
+    want_ok(guest.told(|told| call(told, &mut seen, output.as_mut_ptr(), output.len())))?;
     output.truncate(seen.output);
     Ok(Observation {
         steps: seen.steps,
@@ -365,6 +379,22 @@ impl Host {
         }
         want_ok(code)?;
         Ok(made)
+    }
+
+    /// The verdicts on files as those of one guest, beside the host's library; nothing runs, and the host is as it was.
+    pub fn check(&mut self, files: &[&[u8]]) -> Result<Vec<Verdict>, Error> {
+        let host = &mut self.handle;
+        // SAFETY: the handle holds a host; the list and what it leads to, and the room for verdicts, are as long as the call is told.
+        checked(files, |listed, count, told, room| unsafe { calls::jvhost_check_beside(host, listed, count, told, room) })
+    }
+
+    /// What one guest, alone on the host's library, shows after at most so many steps. The host is as it was, and the guest is none of its
+    /// 64.
+    pub fn judge(&mut self, guest: &Guest<'_>, steps: u32) -> Result<Observation, Error> {
+        let host = &mut self.handle;
+        // SAFETY: the handle holds a host, what is told of the guest is borrowed until the call returns, and the room is as long as the
+        // call is told.
+        judged(guest, |told, seen, output, room| unsafe { calls::jvhost_judge_beside(host, told, steps, seen, output, room) })
     }
 
     /// Judges the files of a guest and admits it, at its start: its number, the first is 0. The bytes are copied.

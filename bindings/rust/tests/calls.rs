@@ -39,6 +39,48 @@ fn refuses_what_is_no_library() {
     assert_eq!(Host::with_library(&[]).err(), Some(Error::NoFiles));
 }
 
+/// The files of the library for guests, but for those whose names begin so.
+fn library(without: &str) -> Vec<Vec<u8>> {
+    let mut paths: Vec<_> = fs::read_dir("../../library/classes").expect("library/classes").map(|it| it.unwrap().path()).collect();
+    paths.retain(|it| without.is_empty() || !it.file_name().unwrap().to_string_lossy().starts_with(without));
+    paths.sort();
+    paths.iter().map(|it| fs::read(it).unwrap()).collect()
+}
+
+fn host_with(files: &[Vec<u8>]) -> Host {
+    Host::with_library(&files.iter().map(Vec::as_slice).collect::<Vec<_>>()).unwrap()
+}
+
+#[test]
+fn judges_beside_a_library() {
+    let maze = fs::read("../../examples/library/maze/Maze.class").unwrap();
+    let input = fs::read("../../examples/library/maze/input").unwrap();
+    let files = [maze.as_slice()];
+    let mut host = host_with(&library(""));
+    assert!(matches!(check(&files).unwrap()[0], Verdict::Verify { .. }));
+    assert_eq!(host.check(&files), Ok(vec![Verdict::Accepted]));
+    let guest = Guest::new(&files, b"Maze", &input);
+    let judged = host.judge(&guest, 10_000_000).unwrap();
+    let id = host.admit(&guest).unwrap();
+    host.run(10_000_000, 1).unwrap();
+    let seen = host.observe(id).unwrap();
+    assert!(seen.end == End::Returned && !seen.output.is_empty());
+    assert_eq!((judged.steps, judged.throws, judged.output, judged.end), (seen.steps, seen.throws, seen.output, seen.end));
+    assert_eq!(host.check(&[]), Err(Error::NoFiles));
+    assert_eq!(host.judge(&Guest::new(&[], b"Maze", b""), 1), Err(Error::NoFiles));
+}
+
+#[test]
+fn refuses_beside_a_library_that_does_not_stand() {
+    let class = hi();
+    let files = [class.as_slice()];
+    let mut host = host_with(&library("java.util.AbstractMap"));
+    assert_eq!(host.check(&files), Err(Error::LibraryBroken));
+    assert_eq!(host.judge(&Guest::new(&files, b"Hi", b""), 1), Err(Error::LibraryBroken));
+    assert_eq!(host.admit(&Guest::new(&files, b"Hi", b"")), Err(Error::LibraryBroken));
+    assert_eq!(Host::new().unwrap().judge(&Guest::new(&files, b"Hi", b""), 1_000), judge(&Guest::new(&files, b"Hi", b""), 1_000));
+}
+
 #[test]
 fn hosts_guests() {
     let mut host = Host::new().unwrap();

@@ -1,12 +1,9 @@
--- A guest that is admitted has a small number, and a call that changes nothing.
-use Rattle.std.proofs.Common.{◌≡◌, ℕ, ◌<◌, List, Option, Some, None, inl, inr, length, refl, sym, ◌∙◌, arith}
-use Rattle.std.specs.Prelude.{IsSome}
-use Rattle.std.proofs.lemmas.Bool.{false≢true}
+-- A guest that is admitted has a small number.
+use Rattle.std.proofs.Common.{◌≡◌, ℕ, ◌<◌, Option, Some, None, inl, inr, length, refl, sym, ◌∙◌, arith}
 use Rattle.jv_limits.specs.declared.fault.AdmitFault.{AdmitFault}
 use Rattle.jv_limits.specs.declared.fault.AdmitFault.TheVariants as refusals
 use Rattle.jv_meaning_machine.specs.Start.{Budget}
 use Rattle.jv_meaning_machine.specs.Alone.{GuestFiles}
-use Rattle.jv_host.specs.Host.{Admission}
 use Rattle.jv_host.specs.Limits.{first_refusal}
 use Rattle.jv_host.proofs.MayBegin.{few_guests}
 use Rattle.libjvhost.specs.Codes.{admit_refusal}
@@ -35,8 +32,3 @@ admitted_few g b (Some old) new code number h e =
     let small = few_guests g b (length old.guests) (free g b (length old.guests) code h.2.answer e) in
     let is = h.2.number e in
     omega (arith, small, is)
-
-pub unchanged : (held : Option Hosted) (code : ℕ) (Does : List Admission → List Admission → Type 0) → IsSome held → ((old : List Admission) → Does old old)
-    → OverHost held held code Does
-unchanged None code Does some does = absurd (false≢true some)
-unchanged (Some host) code Does some does = (host.guests, refl, does host.guests)

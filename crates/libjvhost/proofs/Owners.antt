@@ -19,8 +19,8 @@ use Rattle.std.specs.Prelude.{Option, None, Some, IsSome}
 use Rattle.std.proofs.lemmas.Bool.{false≢true}
 use Rattle.libjvhost.specs.Inside.Held.{Held}
 use Rattle.libjvhost.specs.Inside.Owning.{owns_both, owns_held}
-use Rattle.libjvhost.specs.declared.jobs.Done.{Done}
-use Rattle.libjvhost.specs.contracts.jobs.Done as done_row
+use Rattle.libjvhost.specs.declared.done.Done.{Done}
+use Rattle.libjvhost.specs.contracts.done.Done as done_row
 use Rattle.libjvhost.specs.contracts.handle.Stepped as stepped
 use Rattle.libjvhost.specs.contracts.handle.Owner as owner
 
@@ -76,7 +76,7 @@ module _ {M : Type 1} {𝓤 : Ura M} {𝓛 : Logic 𝓤} {K : Type 0} {Γ : List
                     ),
                   ),
                 ),
-                ((d.verdict.kind, (d.verdict.method, (d.verdict.offset, (d.verdict.rule, tt)))), (d.bytes, tt)),
+                ((d.verdict.kind, (d.verdict.method, (d.verdict.offset, (d.verdict.rule, tt)))), (d.bytes, (d.verdicts, tt))),
               ),
             ),
           ),

@@ -4,11 +4,12 @@ use Rattle.jv_limits.specs.FileLimits.{first_file_refusal}
 use Rattle.jv_loader.specs.declared.library_fault.LibraryFault.{LibraryFault}
 use Rattle.jv_loader.specs.declared.library_fault.LibraryFault.TheVariants as faults
 use Rattle.jv_loader.specs.LibraryFault.{IsLibraryFault, IsSomeLibrary}
+use Rattle.jv_meaning_world.specs.Library.{with_library}
 use Rattle.jv_meaning_typing.specs.declared.verdict.Verdict.{Verdict}
 use Rattle.jv_meaning_machine.specs.State.{End}
 use Rattle.jv_meaning_machine.specs.State.{End as ends}
 use Rattle.jv_meaning_machine.specs.Start.{Budget}
-use Rattle.jv_meaning_machine.specs.Alone.{GuestFiles}
+use Rattle.jv_meaning_machine.specs.Alone.{GuestFiles, Stands}
 use Rattle.jv_meaning_machine.specs.Observation.{Observed}
 use Rattle.jv_verify.specs.Files.{AreFilesOf, Verified}
 use Rattle.jv_program_base.specs.Verdict.{verdict_text}
@@ -85,9 +86,9 @@ pub record Runs (n rounds : ℕ) (old new : List Admission) (code m : ℕ) : Typ
   pub is_ok : code ≡ ok
   pub ran : IsRun n rounds old new m
 
--- Bytes come to a guest's input, or are refused: for the first reason that applies, or for want of memory.
+-- Bytes come to a guest's input, or are refused.
 pub record Feeds (id : ℕ) (bytes : List ℕ) (old new : List Admission) (code : ℕ) : Type 0 where
-  pub answer : (code ≡ feed_refusal (first_feed_refusal old id bytes)) ⊎ (code ≡ host_memory)
+  pub answer : IsAnswer (feed_refusal (first_feed_refusal old id bytes)) code
   pub fed : code ≡ ok → new ≡ after_feed old id bytes
   pub same : code ≢ ok → new ≡ old
 
@@ -133,7 +134,7 @@ pub record TellsVerdict (id file : ℕ) (old new : List Admission) (code : ℕ) 
 abbrev pub IsFilled : {X : Type 0} → (items old new : List X) → Type 0
 IsFilled items old new = new ≡ take (length old) items ++ drop (length items) old
 
--- ---- calls without a host
+-- ---- calls without a host, and beside a host's library
 
 -- the first reason not to judge files whose verdicts have this room, ok where there is none
 abbrev pub check_refusal : (files : List (List ℕ)) → (room : ℕ) → ℕ
@@ -142,23 +143,41 @@ check_refusal files room =
     else if nat_lt room (length files) then no_room
     else ok
 
--- The verdicts on the files of one guest fill the front of the room, or the files are refused for the first reason that applies.
-pub record Checks (files : List (List ℕ)) (code : ℕ) (old new : List ToldVerdict) : Type 0 where
-  pub answer : IsAnswer (check_refusal files (length old)) code
-  pub told :
-      code ≡ ok → (found : Verified) × AreFilesOf [] files found × IsFilled (map told_verdict found.verdicts) old new
+-- A library of these files stands beside a guest's: each class that it gives or lends to is accepted. So much is told of what both hold.
+pub record StandsBeside (library files : List (List ℕ)) (Tells : Verified → Type 0) : Type 0 where
+  pub found : Verified
+  pub right : AreFilesOf library files found
+  pub stands : Stands found.world (with_library right.given)
+  pub told : Tells found
+
+-- it doesn't
+pub record IsBrokenBeside (library files : List (List ℕ)) : Type 0 where
+  pub found : Verified
+  pub right : AreFilesOf library files found
+  pub broken : Stands found.world (with_library right.given) → ⊥
+
+-- The answer is the first reason not to judge files beside a library, the last of which is that it doesn't stand there; or ok, or that
+-- memory was refused.
+abbrev pub IsCheckAnswer : (library files : List (List ℕ)) → (room code : ℕ) → Type 0
+IsCheckAnswer library files room code =
+    IsAnswer (check_refusal files room) code
+    ⊎ ((check_refusal files room ≡ ok) × (code ≡ library_broken) × IsBrokenBeside library files)
+
+-- The verdicts on the files of one guest, beside a library of these, fill the front of the room, or they are refused.
+pub record Checks (library files : List (List ℕ)) (code : ℕ) (old new : List ToldVerdict) : Type 0 where
+  pub answer : IsCheckAnswer library files (length old) code
+  pub told : code ≡ ok → StandsBeside library files (λ found. IsFilled (map told_verdict found.verdicts) old new)
   pub same : code ≢ ok → new ≡ old
 
--- The guest, alone in a host, had a turn of at most n steps, and shows these numbers; what it wrote fills the front of the room.
-abbrev pub IsJudged : GuestFiles → Budget → (n : ℕ) → Seen → (old new : List ℕ) → Type 0
-IsJudged g b n seen old new =
-    (guests : List Admission) × (k : ℕ) × IsTurn (admission g b ∷ []) guests 0 n k
-    × ShowsSome guests 0 (λ o. AreNumbers seen o × IsFilled o.output old new)
+-- The guest, alone in a host, had a turn of at most n steps, and so much is told of what it shows then.
+abbrev pub IsJudged : GuestFiles → Budget → (n : ℕ) → (Observed → Type 0) → Type 0
+IsJudged g b n Tells =
+    (guests : List Admission) × (k : ℕ) × IsTurn (admission g b ∷ []) guests 0 n k × ShowsSome guests 0 Tells
 
--- So it is, or it is refused, or memory was.
+-- So it is, with these numbers, and what it wrote fills the front of the room; or it is refused.
 pub record Judges (g : GuestFiles) (b : Budget) (n code : ℕ) (seen : Seen) (old new : List ℕ) : Type 0 where
-  pub answer : IsAdmitAnswer g b 0 code ⊎ (code ≡ host_memory)
-  pub judged : code ≡ ok → IsJudged g b n seen old new
+  pub answer : IsAdmitAnswer g b 0 code
+  pub judged : code ≡ ok → IsJudged g b n (λ o. AreNumbers seen o × IsFilled o.output old new)
   pub same : code ≢ ok → new ≡ old
 
 -- no verdict is told so, and the call says so

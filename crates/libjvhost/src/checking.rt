@@ -1,19 +1,20 @@
-//! The verdicts on files, and nothing runs.
+//! The verdicts on files beside what a host gives, and nothing runs.
 
-ghost use Rattle.std.specs.Prelude.{◌≡◌, [], IfSome, map};
+ghost use Rattle.std.specs.Prelude.{◌≡◌, ◌≢◌, [], IfSome, map};
 ghost use Rattle.jv_limits.specs.Bytes.{bytes_of};
-ghost use Rattle.jv_verify.specs.Files.{AreFilesOf, Verified};
-ghost use Rattle.libjvhost.specs.Calls.{Checks};
+ghost use Rattle.libjvhost.specs.Calls.{check_refusal};
+ghost use Rattle.libjvhost.specs.Codes.{library_broken};
+ghost use Rattle.libjvhost.specs.Inside.Jobs.{ChecksSo, VerifiesSo};
 ghost use Rattle.libjvhost.specs.Told.{told_verdict};
 
-use crate::codes::{HOST_MEMORY, NO_ROOM, OK, admit_code};
-use crate::room::fill_verdicts;
-use crate::seed::state_of;
+use crate::codes::{HOST_MEMORY, LIBRARY_BROKEN, NO_ROOM, OK, admit_code};
+use crate::done::{Done, coded};
 use crate::told::{ToldVerdict, told_verdict};
 use jv_limits::first_file_refusal;
-use jv_loader::system_files;
+use jv_loader::SystemFiles;
 use jv_verify::{Verified, verify_files};
 use std::alloc::Global;
+use std::hash::RandomState;
 
 /// Verdicts as they are told.
 fn listed(alloc: Global, verified: &Verified<'_>) -> Option<Vec<ToldVerdict>>
@@ -28,47 +29,52 @@ fn listed(alloc: Global, verified: &Verified<'_>) -> Option<Vec<ToldVerdict>>
     Some(told)
 }
 
-/// The verdicts on the files of one guest, as they are told, or want of memory.
-fn told_verdicts(
-    alloc: Global,
-    seed: u64,
-    more_seed: u64,
-    files: &[&[u8]],
-) -> Option<Vec<ToldVerdict>>
-    ensures { IfSome result (λ told.
-        (found : Verified) × AreFilesOf [] (map bytes_of files.now) found × (told.items ≡ map told_verdict found.verdicts)) }
-{
-    let (Some(state), Ok(system)) = (state_of(seed, more_seed), system_files(alloc)) else {
-        return None;
-    };
-    let Ok(verified) = verify_files(alloc, state, &system, files) else {
-        return None;
-    };
-    listed(alloc, &verified)
-}
-
-/// Judges files as those of one guest, and tells the verdict on each.
-#[unsafe(no_mangle)]
-pub extern "C" fn jvhost_check_seeded(
-    alloc: Global,
-    seed: u64,
-    more_seed: u64,
-    files: &[&[u8]],
-    verdicts: &mut [ToldVerdict],
-) -> u32
-    ensures { Checks (map bytes_of files.now) result verdicts.old verdicts.new }
+/// The first reason not to judge files whose verdicts have this room, `OK` where there is none.
+pub(crate) fn check_refusal(files: &[&[u8]], room: usize) -> u32
+    ensures { result ≡ check_refusal (map bytes_of files.now) room }
 {
     if let Some(fault) = first_file_refusal(files) {
         return admit_code(fault);
     }
-    if verdicts.len() < files.len() {
-        return NO_ROOM;
+    if room < files.len() { NO_ROOM } else { OK }
+}
+
+/// Tells the verdicts on the files of one guest, beside those that a host gives.
+fn verify_beside(alloc: Global, state: RandomState, system: &SystemFiles, files: &[&[u8]]) -> Done
+    ensures so { VerifiesSo system.now (map bytes_of files.now) result }
+    ensures whole { system.now ≡ [] → result.code ≢ library_broken }
+{
+    let Ok(verified) = verify_files(alloc, state, system, files) else {
+        return coded(alloc, HOST_MEMORY);
+    };
+    let Ok(stands) = verified.host_stands(alloc, state) else {
+        return coded(alloc, HOST_MEMORY);
+    };
+    if !stands {
+        return coded(alloc, LIBRARY_BROKEN);
     }
-    match told_verdicts(alloc, seed, more_seed, files) {
-        Some(told) => {
-            fill_verdicts(&told, verdicts);
-            OK
-        }
-        None => HOST_MEMORY,
+    let Some(verdicts) = listed(alloc, &verified) else {
+        return coded(alloc, HOST_MEMORY);
+    };
+    let mut done = coded(alloc, OK);
+    done.verdicts = verdicts;
+    done
+}
+
+/// The same of files that may be refused, where there is room for so many verdicts.
+pub(crate) fn check(
+    alloc: Global,
+    state: RandomState,
+    system: &SystemFiles,
+    files: &[&[u8]],
+    room: usize,
+) -> Done
+    ensures so { ChecksSo system.now (map bytes_of files.now) room result }
+    ensures whole { system.now ≡ [] → result.code ≢ library_broken }
+{
+    let refusal = check_refusal(files, room);
+    if refusal != OK {
+        return coded(alloc, refusal);
     }
+    verify_beside(alloc, state, system, files)
 }

@@ -36,7 +36,7 @@ pub(crate) const NO_ROOM: u32 = 13;
 /// No verdict is told so.
 pub(crate) const WRONG_VERDICT: u32 = 14;
 /// The library doesn't stand beside the guest's files. 15 to 17 are those of the part in C.
-const LIBRARY_BROKEN: u32 = 18;
+pub(crate) const LIBRARY_BROKEN: u32 = 18;
 /// Files are no library.
 pub(crate) const NO_LIBRARY: u32 = 19;
 

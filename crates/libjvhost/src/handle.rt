@@ -6,7 +6,8 @@ ghost use Rattle.libjvhost.specs.Inside.Jobs.{Does};
 ghost use Rattle.libjvhost.specs.Calls.{OverHost, library_in, new_host};
 
 use crate::codes::NO_HOST;
-use crate::jobs::{Done, Job, coded};
+use crate::done::{Done, coded};
+use crate::jobs::Job;
 use crate::kept::{Kept, Owned, begin, work};
 use crate::loose::Loose;
 use std::alloc::Global;
@@ -81,9 +82,9 @@ impl Owner {
         }
     }
 
-    pub(crate) fn step(self, job: Job) -> Stepped
+    pub(crate) fn step(self, job: Job<'_>) -> Stepped
         requires { IsSome self.value }
-        ensures did { DoesOver job (held_of self.value) (held_of result.host.value) result.done }
+        ensures did { DoesOver job.entry (held_of self.value) (held_of result.host.value) result.done }
         ensures live { IsSome result.host.value }
     {
         let Owner { kept, owned } = self;
@@ -140,9 +141,9 @@ fn taken(host: &mut JvHost) -> Owner
 }
 
 /// Does a job with what the handle holds, if it holds a host.
-pub(crate) fn perform(alloc: Global, host: &mut JvHost, job: Job) -> Done
+pub(crate) fn perform(alloc: Global, host: &mut JvHost, job: Job<'_>) -> Done
     ensures { OverHost (held_of host.old.owner.value) (held_of host.new.owner.value) result.code
-        (λ old new. Does job (library_in (held_of host.old.owner.value)) old new result) }
+        (λ old new. Does job.entry (library_in (held_of host.old.owner.value)) old new result) }
 {
     if host.holds == 0 {
         return coded(alloc, NO_HOST);

@@ -7,7 +7,7 @@ ghost use Rattle.libjvhost.specs.Codes.{ok, has_host, host_memory, no_library, w
 ghost use Rattle.libjvhost.specs.Handles.{host_of, library_of};
 ghost use Rattle.libjvhost.specs.Told.{budget_told, files_told};
 
-use crate::codes::{HAS_HOST, HOST_MEMORY, NO_HOST, NO_LIBRARY, OK, WRONG_SIZE, admit_code};
+use crate::codes::{HAS_HOST, HOST_MEMORY, NO_LIBRARY, OK, WRONG_SIZE, admit_code};
 use crate::handle::{JvHost, close, perform};
 use crate::jobs::Job;
 use crate::kept::make;
@@ -166,11 +166,5 @@ pub extern "C" fn jvhost_run(
 pub extern "C" fn jvhost_feed(alloc: Global, host: &mut JvHost, id: u32, bytes: &[u8]) -> u32
     ensures { OverHost (host_of host.old) (host_of host.new) result (λ old new. Feeds id bytes.now old new result) }
 {
-    if host.holds == 0 {
-        return NO_HOST;
-    }
-    match Vec::from_slice(alloc, bytes) {
-        Ok(copy) => perform(alloc, host, Job::Feed(GuestId(id), copy)).code,
-        Err(_) => HOST_MEMORY,
-    }
+    perform(alloc, host, Job::Feed(GuestId(id), bytes)).code
 }

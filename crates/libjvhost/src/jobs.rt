@@ -1,24 +1,26 @@
 //! What is asked of the host behind a handle, and what comes of it.
 
-ghost use Rattle.std.specs.Prelude.{◌≡◌, ◌≢◌, take, drop};
+ghost use Rattle.std.specs.Prelude.{◌≡◌, take, drop};
 ghost use Rattle.jv_host.specs.Showing.{observed_of};
 ghost use Rattle.libjvhost.specs.Told.{AreNumbers, budget_told, files_told};
 ghost use Rattle.libjvhost.specs.Calls.{Admits, Turns, Runs, Feeds, Observes, Copies, TellsVerdict, end_class, last_class};
 ghost use Rattle.libjvhost.specs.Inside.Jobs.{Does};
 
+use crate::checking::check;
 use crate::codes::{HOST_MEMORY, NO_FILE, NO_GUEST, OK, admit_code, feed_code};
+use crate::done::{Done, coded, copied, numbered};
+use crate::judging::judge;
 use crate::room::{front_of, rest_of};
-use crate::told::{
-    ACCEPTED, Guest, Seen, ToldVerdict, UNSEEN, budget_of, files_of, seen_of, told_verdict,
-};
+use crate::told::{Guest, budget_of, files_of, seen_of, told_verdict};
 use jv_host::{GuestEnd, GuestId, Host, Observation};
 use jv_loader::SystemFiles;
 use jv_store::Cells;
 use std::alloc::Global;
+use std::hash::RandomState;
 
-/// What is asked of a host.
+/// What is asked of a host. What it brings has to stay for the call, but what a guest that is admitted does.
 #[derive(Drop)]
-pub enum Job {
+pub enum Job<'j> {
     /// To admit a guest.
     Admit(Guest<'static>),
     /// To give a guest a turn.
@@ -26,7 +28,7 @@ pub enum Job {
     /// To give turns in rounds.
     Run(u32, u32),
     /// To feed a guest.
-    Feed(GuestId, Vec<u8>),
+    Feed(GuestId, &'j [u8]),
     /// To say in numbers what a guest shows.
     Observe(GuestId),
     /// To copy what a guest wrote, from a place on and up to a limit.
@@ -37,56 +39,10 @@ pub enum Job {
     EndClass(GuestId),
     /// To tell a verdict.
     Verdict(GuestId, usize),
-}
-
-/// What came of it: a code, and what else it is to say.
-#[derive(Drop)]
-pub struct Done {
-    pub(crate) code: u32,
-    pub(crate) number: u64,
-    pub(crate) seen: Seen,
-    pub(crate) verdict: ToldVerdict,
-    pub(crate) bytes: Vec<u8>,
-}
-
-/// A code, with nothing else to say.
-pub(crate) fn coded(alloc: Global, code: u32) -> Done
-    ensures { result.code ≡ code }
-{
-    Done {
-        code,
-        number: 0,
-        seen: UNSEEN,
-        verdict: ACCEPTED,
-        bytes: Vec::new(alloc),
-    }
-}
-
-/// It is done, with a number.
-fn numbered(alloc: Global, number: u64) -> Done
-    ensures code { result.code ≡ 0 }
-    ensures number { result.number ≡ number }
-{
-    let mut done = coded(alloc, OK);
-    done.number = number;
-    done
-}
-
-/// A copy of bytes, or want of memory.
-fn copied(alloc: Global, bytes: &[u8]) -> Done
-    ensures ok { result.code ≡ 0 → result.bytes.items ≡ bytes.now }
-    ensures memory { result.code ≢ 0 → result.code ≡ 11 }
-{
-    match Vec::from_slice(alloc, bytes) {
-        Ok(bytes) => Done {
-            code: OK,
-            number: 0,
-            seen: UNSEEN,
-            verdict: ACCEPTED,
-            bytes,
-        },
-        Err(_) => coded(alloc, HOST_MEMORY),
-    }
+    /// To judge files beside its library, with room for so many verdicts.
+    Check(&'j [&'j [u8]], usize),
+    /// To judge one guest beside its library, with so many steps and room for so many bytes.
+    Judge(Guest<'j>, u32, usize),
 }
 
 fn admit<'a>(
@@ -209,21 +165,24 @@ fn verdict(alloc: Global, host: &Host<'_, Cells>, id: GuestId, file: usize) -> D
 /// Does a job.
 pub(crate) fn do_job<'a>(
     alloc: Global,
+    state: RandomState,
     system: &'a SystemFiles,
     host: &mut Host<'a, Cells>,
-    job: Job,
+    job: Job<'_>,
 ) -> Done
-    ensures { Does job system.now host.old host.new result }
+    ensures { Does job.entry system.now host.old host.new result }
 {
     match job {
         Job::Admit(guest) => admit(alloc, system, host, guest),
         Job::Turn(id, n) => turn(alloc, host, id, n),
         Job::Run(n, rounds) => run(alloc, host, n, rounds),
-        Job::Feed(id, bytes) => feed(alloc, host, id, &bytes),
+        Job::Feed(id, bytes) => feed(alloc, host, id, bytes),
         Job::Observe(id) => observe(alloc, host, id),
         Job::Output(id, from, most) => output(alloc, host, id, from, most),
         Job::Last(id) => last(alloc, host, id),
         Job::EndClass(id) => end(alloc, host, id),
         Job::Verdict(id, file) => verdict(alloc, host, id, file),
+        Job::Check(files, room) => check(alloc, state, system, files, room),
+        Job::Judge(guest, n, room) => judge(alloc, state, system, guest, n, room),
     }
 }

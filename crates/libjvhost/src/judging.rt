@@ -1,120 +1,89 @@
 //! One guest, alone in a host of its own.
 
-ghost use Rattle.std.specs.Prelude.{◌≡◌, ◌≢◌, ◌⊎◌, ℕ, []};
+ghost use Rattle.std.specs.Prelude.{◌≡◌, ◌⊎◌, ℕ, [], take};
 ghost use Rattle.jv_host.specs.Started.{budget_of};
 ghost use Rattle.jv_host.specs.Files.{guest_of};
 ghost use Rattle.jv_host.specs.Calls.{IsTurn};
-ghost use Rattle.libjvhost.specs.Calls.{IsFilled, Judges, ShowsSome};
-ghost use Rattle.libjvhost.specs.Codes.{ok, host_memory, wrong_size};
+ghost use Rattle.libjvhost.specs.Calls.{ShowsSome};
+ghost use Rattle.libjvhost.specs.Codes.{ok, host_memory};
+ghost use Rattle.libjvhost.specs.Inside.Jobs.{JudgesSo};
 ghost use Rattle.libjvhost.specs.Told.{AreNumbers, budget_told, files_told};
 
-use crate::codes::{HOST_MEMORY, OK, WRONG_SIZE, admit_code};
-use crate::room::fill;
-use crate::seed::state_of;
-use crate::told::{GUEST_SIZE, Guest, SEEN_SIZE, Seen, budget_of, files_of, seen_of};
+use crate::codes::{HOST_MEMORY, admit_code};
+use crate::done::{Done, coded, copied};
+use crate::room::front_of;
+use crate::told::{Guest, budget_of, files_of, seen_of};
 use jv_host::{Budget, GuestFiles, GuestId, Host};
-use jv_loader::system_files;
+use jv_loader::SystemFiles;
 use jv_store::Cells;
 use std::alloc::Global;
 use std::hash::RandomState;
 
-/// Says what a guest shows.
-fn look(host: &Host<'_, Cells>, id: GuestId, seen: &mut Seen, output: &mut [u8]) -> u32
-    ensures code { (result ≡ ok) ⊎ (result ≡ host_memory) }
-    ensures shown { result ≡ ok → ShowsSome host.now id.0 (λ o. AreNumbers seen.new o × IsFilled o.output output.old output.new) }
-    ensures seen { result ≢ ok → seen.new ≡ seen.old }
-    ensures same { result ≢ ok → output.new ≡ output.old }
+/// Says what a guest shows, with as many of its bytes as there is room for.
+fn look(alloc: Global, host: &Host<'_, Cells>, id: GuestId, room: usize) -> Done
+    ensures code { (result.code ≡ ok) ⊎ (result.code ≡ host_memory) }
+    ensures shown { result.code ≡ ok → ShowsSome host.now id.0 (λ o.
+        AreNumbers result.seen o × (result.bytes.items ≡ take room o.output)) }
 {
     match host.observe(id) {
         Ok(shown) => {
-            *seen = seen_of(&shown);
-            fill(shown.output, output);
-            OK
+            let mut done = copied(alloc, front_of(shown.output, room));
+            done.seen = seen_of(&shown);
+            done
         }
-        Err(_) => HOST_MEMORY,
+        Err(_) => coded(alloc, HOST_MEMORY),
     }
 }
 
 /// Gives a guest a turn, and says what it shows then.
 fn turn_and_look(
+    alloc: Global,
     host: &mut Host<'_, Cells>,
     id: GuestId,
     n: u32,
-    seen: &mut Seen,
-    output: &mut [u8],
-) -> u32
-    ensures code { (result ≡ ok) ⊎ (result ≡ host_memory) }
-    ensures turn { result ≡ ok → (k : ℕ) × IsTurn host.old host.new id.0 n k }
-    ensures shown { result ≡ ok → ShowsSome host.new id.0 (λ o. AreNumbers seen.new o × IsFilled o.output output.old output.new) }
-    ensures seen { result ≢ ok → seen.new ≡ seen.old }
-    ensures same { result ≢ ok → output.new ≡ output.old }
+    room: usize,
+) -> Done
+    ensures code { (result.code ≡ ok) ⊎ (result.code ≡ host_memory) }
+    ensures turn { result.code ≡ ok → (k : ℕ) × IsTurn host.old host.new id.0 n k }
+    ensures shown { result.code ≡ ok → ShowsSome host.new id.0 (λ o.
+        AreNumbers result.seen o × (result.bytes.items ≡ take room o.output)) }
 {
     match host.turn(id, n) {
-        Ok(_taken) => look(host, id, seen, output),
-        Err(_) => HOST_MEMORY,
+        Ok(_taken) => look(alloc, host, id, room),
+        Err(_) => coded(alloc, HOST_MEMORY),
     }
 }
 
 /// Admits a guest to an empty host, gives it a turn, and says what it shows then.
 fn play<'a>(
+    alloc: Global,
     host: &mut Host<'a, Cells>,
     files: GuestFiles<'a>,
     budget: Budget,
     n: u32,
-    seen: &mut Seen,
-    output: &mut [u8],
-) -> u32
+    room: usize,
+) -> Done
     requires { host.old ≡ [] }
-    ensures judges { Judges (guest_of files.entry) (budget_of budget) n result seen.new output.old output.new }
-    ensures seen { result ≢ ok → seen.new ≡ seen.old }
+    ensures { JudgesSo (guest_of files.entry) (budget_of budget) n room result }
 {
     match host.admit(files, budget) {
-        Ok(id) => turn_and_look(host, id, n, seen, output),
-        Err(fault) => admit_code(fault),
+        Ok(id) => turn_and_look(alloc, host, id, n, room),
+        Err(fault) => coded(alloc, admit_code(fault)),
     }
 }
 
-/// The same in a host of its own.
-fn play_alone<'a>(
+/// The same in a host of its own, on what a host gives.
+pub(crate) fn judge<'a>(
     alloc: Global,
     state: RandomState,
-    files: GuestFiles<'a>,
-    budget: Budget,
+    system: &'a SystemFiles,
+    guest: Guest<'a>,
     n: u32,
-    seen: &mut Seen,
-    output: &mut [u8],
-) -> u32
-    ensures judges { Judges (guest_of files.entry) (budget_of budget) n result seen.new output.old output.new }
-    ensures seen { result ≢ ok → seen.new ≡ seen.old }
+    room: usize,
+) -> Done
+    ensures { JudgesSo (files_told system.now guest.entry) (budget_told guest.entry) n room result }
 {
     let mut host = Host::new(alloc, state);
-    play(&mut host, files, budget, n, seen, output)
-}
-
-/// Admits one guest to a host of its own, gives it a turn of at most so many steps, and says what it shows then.
-#[unsafe(no_mangle)]
-pub extern "C" fn jvhost_judge_seeded(
-    alloc: Global,
-    seed: u64,
-    more_seed: u64,
-    guest: &Guest<'_>,
-    steps: u32,
-    seen: &mut Seen,
-    output: &mut [u8],
-) -> u32
-    ensures guest { guest.now.size ≢ 72 → result ≡ wrong_size }
-    ensures size { seen.old.size ≢ 48 → result ≡ wrong_size }
-    ensures judges { guest.now.size ≡ 72 → seen.old.size ≡ 48
-        → Judges (files_told [] guest.now) (budget_told guest.now) steps result seen.new output.old output.new }
-    ensures seen { result ≢ ok → seen.new ≡ seen.old }
-    ensures same { result ≢ ok → output.new ≡ output.old }
-{
-    if guest.size != GUEST_SIZE || seen.size != SEEN_SIZE {
-        return WRONG_SIZE;
-    }
-    let (Some(state), Ok(system)) = (state_of(seed, more_seed), system_files(alloc)) else {
-        return HOST_MEMORY;
-    };
-    let files = files_of(&system, *guest);
-    play_alone(alloc, state, files, budget_of(guest), steps, seen, output)
+    let (files, budget) = (files_of(system, guest), budget_of(&guest));
+    play(alloc, &mut host, files, budget, n, room)
 }

@@ -5,7 +5,8 @@ ghost use Rattle.libjvhost.specs.Calls.{new_host};
 ghost use Rattle.libjvhost.specs.Inside.Held.{held_in, DoesOver};
 
 use crate::codes::NO_HOST;
-use crate::jobs::{Done, Job, coded, do_job};
+use crate::done::{Done, coded};
+use crate::jobs::{Job, do_job};
 use crate::loose::Loose;
 use jv_host::Host;
 use jv_loader::SystemFiles;
@@ -21,9 +22,10 @@ pub struct Owned {
     pub(crate) system: SystemFiles,
 }
 
-/// A host, and what its guests stand on.
+/// A host, and what its guests stand on and are hashed with.
 #[derive(Drop)]
 pub struct Begun<'a> {
+    pub(crate) state: RandomState,
     pub(crate) system: &'a SystemFiles,
     pub(crate) host: Host<'a, Cells>,
 }
@@ -64,6 +66,7 @@ pub(crate) fn begin<'a>(owned: &'a mut Owned) -> Kept<'a>
     Kept {
         alloc: owned.alloc,
         begun: Some(Begun {
+            state: owned.state,
             system: &owned.system,
             host: Host::new(owned.alloc, owned.state),
         }),
@@ -71,11 +74,11 @@ pub(crate) fn begin<'a>(owned: &'a mut Owned) -> Kept<'a>
 }
 
 /// Does what is asked for.
-pub(crate) fn work<'a>(kept: &mut Kept<'a>, job: Job) -> Done
-    ensures { DoesOver job (held_in kept.old) (held_in kept.new) result }
+pub(crate) fn work<'a>(kept: &mut Kept<'a>, job: Job<'_>) -> Done
+    ensures { DoesOver job.entry (held_in kept.old) (held_in kept.new) result }
 {
     match &mut kept.begun {
-        Some(begun) => do_job(kept.alloc, begun.system, &mut begun.host, job),
+        Some(begun) => do_job(kept.alloc, begun.state, begun.system, &mut begun.host, job),
         None => coded(kept.alloc, NO_HOST),
     }
 }

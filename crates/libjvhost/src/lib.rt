@@ -3,8 +3,11 @@
 //! In contracts a handle is the list of admissions that its host stands for, or nothing (`guests_of`).
 #![tactic(auto)]
 
+mod alone;
+mod beside;
 mod checking;
 mod codes;
+mod done;
 mod handle;
 mod hosts;
 mod jobs;

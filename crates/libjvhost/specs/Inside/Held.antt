@@ -5,7 +5,7 @@ use Rattle.libjvhost.specs.Calls.{Hosted}
 use Rattle.libjvhost.specs.declared.kept.Begun.{Begun}
 use Rattle.libjvhost.specs.declared.kept.Kept.{Kept}
 use Rattle.libjvhost.specs.declared.jobs.Job.{Job}
-use Rattle.libjvhost.specs.declared.jobs.Done.{Done}
+use Rattle.libjvhost.specs.declared.done.Done.{Done}
 use Rattle.libjvhost.specs.Inside.Jobs.{Does}
 
 abbrev pub Held : Type 0

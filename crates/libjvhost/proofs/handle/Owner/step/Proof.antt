@@ -28,15 +28,14 @@ use denote.Lend.{lends_ref, ref_back}
 use denote.Memory.{part_at, lone, mem}
 use denote.RattleType.{RattleType, owns}
 use denote.RawPtr.{Ptr, block_ptr, null_ptr, ptr_val, in_a_block}
-use denote.Ref.{MutRef}
-use denote.Signature.{types_at, plain}
+use denote.Ref.{MutRef, NamedLft}
+use denote.Signature.{types_at, plain, named_lft}
 use denote.Steps.{nothing, heard, peeks}
 use denote.Laws.{Is, shows}
 use denote.Param.{layout}
 use Rattle.core.proofs.cell.Inside.{one}
 use denote.Triple.Call.{calls_at}
 use denote.Triple.Clauses.{Lasts, lasts}
-use denote.Triple.Entry.{alive}
 use denote.Triple.Spec.{triple_of}
 use denote.Triple.Table.{framed}
 use denote.Triple.Walked.{Stays, stay_dropped, walk_of, Goes-dropped}
@@ -50,11 +49,11 @@ use Rattle.libjvhost.specs.Inside.Held.{Held, held_in, held_of, DoesOver}
 use Rattle.libjvhost.specs.Inside.Owning.{chunk, lent_row, holds_kept, back}
 use Rattle.libjvhost.specs.contracts.handle.Owner as owner
 use Rattle.libjvhost.proofs.Owners.{both, owner_good, owner_in, owner_out, full_out, stepped_in, both_tt}
-use Rattle.libjvhost.specs.declared.jobs.Done.{Done}
+use Rattle.libjvhost.specs.declared.done.Done.{Done}
 use Rattle.libjvhost.specs.contracts.jobs.Job as job
 use Rattle.libjvhost.proofs.jobs.Job.TheLaws as job_laws
-use Rattle.libjvhost.specs.contracts.jobs.Done as done_row
-use Rattle.libjvhost.proofs.jobs.Done.TheLaws as done_laws
+use Rattle.libjvhost.specs.contracts.done.Done as done_row
+use Rattle.libjvhost.proofs.done.Done.TheLaws as done_laws
 use Rattle.libjvhost.specs.contracts.kept.work as work
 use Rattle.libjvhost.proofs.kept.work.Met as work_thm
 use Rattle.libjvhost.specs.contracts.handle.Owner.step.{ended, clauses}
@@ -63,27 +62,30 @@ use Rattle.libjvhost.proofs.handle.Owner.step.Statement.{statement}
 use Rattle.libjvhost.proofs.handle.Owner.step.Code as code
 
 -- a job leaves nothing behind
-no_trace : (x : job.the_row.Denot) (f : Last (job.the_row.exit yes) x) → T (blank (left (job.the_row.exit yes) x f))
-no_trace (jobs.Admit guest) f = tt
-no_trace (jobs.Turn id n) f = tt
-no_trace (jobs.Run n rounds) f = tt
-no_trace (jobs.Feed id bytes) f = tt
-no_trace (jobs.Observe id) f = tt
-no_trace (jobs.Output id from most) f = tt
-no_trace (jobs.Last id) f = tt
-no_trace (jobs.EndClass id) f = tt
-no_trace (jobs.Verdict id file) f = tt
+no_trace : (κ : NamedLft) (x : (job.the_row κ).Denot) (f : Last ((job.the_row κ).exit yes) x) → T (blank (left ((job.the_row κ).exit yes) x f))
+no_trace κ (jobs.Admit guest) f = tt
+no_trace κ (jobs.Turn id n) f = tt
+no_trace κ (jobs.Run n rounds) f = tt
+no_trace κ (jobs.Feed id bytes) f = tt
+no_trace κ (jobs.Observe id) f = tt
+no_trace κ (jobs.Output id from most) f = tt
+no_trace κ (jobs.Last id) f = tt
+no_trace κ (jobs.EndClass id) f = tt
+no_trace κ (jobs.Verdict id file) f = tt
+no_trace κ (jobs.Check files room) f = tt
+no_trace κ (jobs.Judge guest n room) f = tt
 
 pub step_spec : {M : Type 1} → statement M
 step_spec 𝓤 𝓛 𝓜 𝓡 wired =
     let H = 𝓛.H in let 𝓣 = tables 𝓤 H 𝓜 𝓡 𝓡.env in let c = clauses 𝓛 𝓜.mem 𝓡.returns in let fn = code.function in
-    let O : RattleType = owner.the_row in let J : RattleType = job.the_row in let D : RattleType = done_row.the_row in
-    let hs : Stays ended.signature.params ended.kept = (stay_dropped (plain (λ _. O)) yes, (stay_dropped (plain (λ _. J)) yes, tt)) in
-    proved_at 𝓛 ended hs c 𝓜 𝓡 (Goes-dropped 𝓛 0 (plain (λ _. O)) yes (λ κs x f. refl), (Goes-blank 𝓛 0 (plain (λ _. J)) yes (λ κs x f. no_trace x f), tt)) #self fn
-    (code.unfolded 𝓤 H 𝓜 𝓡 wired) (λ z are.
+    let O : RattleType = owner.the_row in let D : RattleType = done_row.the_row in
+    let hs : Stays ended.signature.params ended.kept = (stay_dropped (plain (λ _. O)) yes, (stay_dropped (plain (λ κs. job.the_row (named_lft 1 0 tt κs))) yes, tt)) in
+    let blanks = Goes-blank 𝓛 1 (plain (λ κs. job.the_row (named_lft 1 0 tt κs))) yes (λ κs x f. no_trace (named_lft 1 0 tt κs) x f) in
+    proved_at 𝓛 ended hs c 𝓜 𝓡 (Goes-dropped 𝓛 1 (plain (λ _. O)) yes (λ κs x f. refl), (blanks, tt)) #self fn (code.unfolded 𝓤 H 𝓜 𝓡 wired) (λ z are.
     let Post : Val → SProp 𝓤 = (walk_of 𝓛 ended hs c).post z in let v = z.0.3.0 in let j = z.0.3.1.0 in
-    let hj = one (layout J) z.0.4.1.0 ((job_laws.the_row_laws.lawful 𝓛).typed j z.0.4.1.0 are.1.0) in
-    qed 𝓛 ((raw (alive 𝓛 ended.signature z.0.0 z.0.1) ⊛ ‵ (owns (types_at ended.signature.params z.0.0) z.0.3 z.0.4)) ∷ raw (fact 𝓤 (IsSome v.value)) ∷ []) ∵
+    let ρ = named_lft 1 0 tt z.0.0 in let J : RattleType = job.the_row ρ in let toks = ‵ (flft ρ.lft z.0.1.0) ⊛ ‵ ftrue in
+    let hj = one (layout J) z.0.4.1.0 (((job_laws.the_row_laws ρ).lawful 𝓛).typed j z.0.4.1.0 are.1.0) in
+    qed 𝓛 ((toks ⊛ ‵ (owns (types_at ended.signature.params z.0.0) z.0.3 z.0.4)) ∷ raw (fact 𝓤 (IsSome v.value)) ∷ []) ∵
     move ! (1 ∷ []) $ heard ! (IsSome v.value) (λ full. split ! $ move ! (1 ∷ []) $ fsplit ! $ move ! (1 ∷ []) $ fsplit ! $
     rewrite ! 0 (λ (us : List Val). ‵ (J.own_val j us)) hj.1 refl $ move ! (2 ∷ []) $
     -- [self; the job; nothing; ..]
@@ -112,8 +114,8 @@ step_spec 𝓤 𝓛 𝓜 𝓡 wired =
     let G = triple_of 𝓛 work.signature (work.spec 𝓛 𝓜.mem 𝓡.returns) in
     let y : G.Ghost = (
       (
-        (κ, (α ∷ [], tt)),
-        (q, (L, tt)),
+        (κ, (α ∷ [], (ρ.lft, tt))),
+        (q, (L, (z.0.1.0, tt))),
         (meet_⊑_right (β ∷ []) (α ∷ []), tt),
         (record { ref_ptr = (b, o); ghost_name = γ; now = x }, (j, tt)),
         (
@@ -123,20 +125,20 @@ step_spec 𝓤 𝓛 𝓜 𝓡 wired =
       ),
       tt,
     ) in
-    nothing ! $ move ! (8 ∷ 0 ∷ []) $ join ! $ move ! (4 ∷ 0 ∷ []) $ join ! $ nothing ! $ move ! (4 ∷ 0 ∷ []) $ join ! $ move ! (2 ∷ 0 ∷ []) $ join ! $ join ! $
+    nothing ! $ move ! (8 ∷ 0 ∷ []) $ join ! $ move ! (4 ∷ 0 ∷ []) $ join ! $ move ! (3 ∷ 8 ∷ []) $ join ! $ move ! (2 ∷ 0 ∷ []) $ join ! $ join ! $
     nothing ! $ move ! (1 ∷ 0 ∷ []) $ use2 𝓛 (raw (G.pre y)) (id⊢ 𝓤 _) $
     calls_at ! (framed 𝓤 𝓛.H 𝓜 (tables 𝓤 𝓛.H 𝓜 𝓡 𝓡.env)) G (work_thm.met 𝓤 𝓛 𝓜 𝓡 (code.calls-libjvhost::kept::work 𝓡.env wired)) y (and_then ! (get ! refl) (and_then ! (get ! refl) (no_more !))) (λ u.
-    use1 𝓛 (later (some (λ (r : Done). ((‵ (flft κ q) ⊛ (‵ (flft (α ∷ []) L) ⊛ ‵ ftrue)) ⊛ ‵ (D.own_val r (u ∷ []))) ⊛
+    use1 𝓛 (later (some (λ (r : Done). ((‵ (flft κ q) ⊛ (‵ (flft (α ∷ []) L) ⊛ toks)) ⊛ ‵ (D.own_val r (u ∷ []))) ⊛
     some (λ (ls : Lasts work.ended y.0.0 y.0.3). ‵ (lasts work.ended y.0.0 y.0.3 ls) ⊛ raw (fact 𝓤 (DoesOver j (held_in x) (held_in ls.0) r)))))) (id⊢ 𝓤 _) $ await ! tt $
     pick ! (λ r. split ! $ split ! $ split ! $ move ! (1 ∷ []) $ split ! $
     move ! (3 ∷ []) $ peeks ! D (Is D) (shows 𝓛 D) r (u ∷ []) (λ isd. let good = (done_laws.the_row_laws.lawful 𝓛).typed r (u ∷ []) isd in lands_as ! refl refl good.0 $
-    -- [what came of it; half of α's token; nothing; κ's token; the host's last value; the way back; ..]
+    -- [what came of it; half of α's token; that of the job's; κ's token; the host's last value; the way back; ..]
     move ! (4 ∷ []) $ pick ! (λ ls. split ! $ move ! (1 ∷ []) $ heard ! (DoesOver j (held_in x) (held_in ls.0) r) (λ did. fsplit ! $ fsplit ! $
     move ! (6 ∷ 7 ∷ []) $ use2 𝓛 (‵ (flft (β ∷ []) full_share) ⊛ ‵ (flft (α ∷ []) R)) (apply∗ 𝓤 (𝓛.A.lft κ q) Both) $ split ! $ lft_end ! tt $
     move ! (6 ∷ 1 ∷ []) $ use2 𝓛 (‵ (flft (α ∷ []) full_share)) (𝓛.lfts.lft_glue (α ∷ []) full_share L R (halves full_share)) $
     move ! (1 ∷ []) $ use1 𝓛 (‵ (fdead κ)) (𝓛.lfts.dead-incl κ (β ∷ []) (meet_⊑_left (β ∷ []) (α ∷ []))) $
     move ! (0 ∷ 7 ∷ 2 ∷ []) $ use3 𝓛 (later (‵ (part_at (lent_row α) full_share ls.0 b o))) (ref_back 𝓛 (lent_row α) κ γ ls.0 b o) $ await ! tt $
-    -- [the host; α's token; the borrow; the rest of the last values; what came of it; nothing; the right to free; what the owned box's lender has; ..]
+    -- [the host; α's token; the borrow; the rest of the last values; what came of it; the token of the job's; the right to free; what the owned box's lender has; ..]
     let p : Ptr = block_ptr b o in let og = owner_good p v.owned in let hv : Val = both (vptr b o) (ptr_val v.owned) in
     sets ! (of_opd ! (get ! refl)) refl (tt, tt) $ sets ! (of_opd ! (get ! refl)) refl (Ptr-Good v.owned) $
     sets ! (agg ! (and_then ! (get ! refl) (and_then ! (get ! refl) (no_more !)))) refl og $
@@ -153,4 +155,4 @@ step_spec 𝓤 𝓛 𝓜 𝓡 wired =
     let Live : Type 0 = IsSome (Some End) in use0 𝓛 (raw (fact 𝓤 Live)) (fact_i 𝓤 Live (emp 𝓤) refl) $
     use0 𝓛 (raw (fact 𝓤 Said)) (fact_i 𝓤 Said (emp 𝓤) (subst (λ (os : Held). DoesOver j os End r) (is ∙ ap held_of (sym held)) did)) $ join ! $ nothing ! $ nothing ! $ fjoin ! $
     nothing ! $ fjoin ! $
-    keep ! (7 ∷ 0 ∷ 2 ∷ 1 ∷ []) $ by ! (leaves 𝓛 ended hs c z (both hv u) (record { host = h; done = r }) (tt, (rest (J.exit yes) j, tt)) (tt, (tt, tt)))))))))))))))))))
+    keep ! (5 ∷ 0 ∷ 2 ∷ 1 ∷ []) $ by ! (leaves 𝓛 ended hs c z (both hv u) (record { host = h; done = r }) (tt, (rest (J.exit yes) j, tt)) (tt, (tt, tt)))))))))))))))))))
