@@ -103,10 +103,15 @@ def machine():
     return "%s, %d cores, %.0f GB" % (model[1] if model else platform.machine(), cores, int(memory[1]) * 1024 / 1e9)
 
 
+def is_unproved(program):
+    """Whether a program is the one that scripts/unproved builds."""
+    return program is not None and os.path.realpath(program) == os.path.realpath(UNPROVED)
+
+
 def how_built(program):
     if program == os.path.realpath(PROGRAM):
         return "proved, and built by ./jvhost"
-    if program == os.path.realpath(UNPROVED):
+    if is_unproved(program):
         return "built without its proofs, by scripts/unproved"
     if os.path.isfile(os.path.join(os.path.dirname(program), "built")):
         return text_of(os.path.join(os.path.dirname(program), "built"))
