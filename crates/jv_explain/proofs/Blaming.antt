@@ -1,11 +1,8 @@
 -- The first direct super in which a fault is found.
-use Rattle.std.proofs.Common.{arith, ◌≡◌, ◌+◌, ℕ, Bool, true, false, cond, List, ◌∷◌, drop, Option, Some, None, refl, sym, ap, ◌∙◌}
+use Rattle.std.proofs.Common.{◌≡◌, ℕ, Bool, true, false, cond, List, ◌∷◌, Option, Some, None, refl, sym, ap, ◌∙◌}
 use Rattle.std.specs.Prelude.{is_some, slice_get}
 use Rattle.std.specs.List.{find}
 use Rattle.std.specs.Option.{option_map}
-use Rattle.std.proofs.Math.Seq.{drop-cons}
-use Rattle.std.proofs.lemmas.Grind.{common_steps}
-use Rattle.std.proofs.lemmas.Option.{slice_get_within, get_or_from_slice_get}
 use Rattle.jv_class_structure.specs.Structure.{ClassStructure}
 use Rattle.jv_pool.specs.Constants.{class_name_at}
 use Rattle.jv_class.specs.Class.{Class, class_of, super_of, all_found, field_of, method_of}
@@ -54,12 +51,6 @@ module _ (world : World) (l : Loaded) (why : LoadVerdict) (s : Super) (more : Li
   passed_over e = ap (λ (b : Bool). blamed_text world l why (cond b (Some s) (find (λ x. is_some (super_fault world l why x)) more))) (ap is_some e)
 
 -- ---- lists
-
-pub rest_of : {X : Type 0} (xs : List X) (k : ℕ) (x : X) → slice_get xs k ≡ Some x → drop k xs ≡ x ∷ drop (k + 1) xs
-rest_of xs k x e =
-    let within = slice_get_within xs k x e in
-    let there = get_or_from_slice_get xs k x x e in
-    drop-cons xs k x within ∙ grind (arith, common_steps, there)
 
 pub same_there : (world : World) (k : ℕ) (a b : Loaded) → slice_get world k ≡ Some a → slice_get world k ≡ Some b → a ≡ b
 same_there world k a b at_a at_b = one (sym at_a ∙ at_b)

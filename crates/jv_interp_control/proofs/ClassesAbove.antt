@@ -1,12 +1,11 @@
 -- A class is another one or below it, by their numbers (JVMS 6.5).
-use Rattle.std.proofs.Common.{◌≡◌, ℕ, Bool, true, false, cond, ◌||◌, nat_eq, List, [], ◌∷◌, Option, Some, slice_get, refl, sym, ap, ◌∙◌, arith}
+use Rattle.std.proofs.Common.{◌≡◌, ℕ, Bool, true, false, ◌||◌, nat_eq, List, Option, Some, slice_get, refl, sym, ap, ◌∙◌, arith}
 use Rattle.std.specs.Str.{bytes_eq}
 use Rattle.std.specs.Cmp.Lexicographic.{nat_list_eq_equiv}
 use Rattle.std.proofs.lemmas.Bool.{eqb-true}
 use Rattle.jv_meaning_world.specs.World.{Loaded, World, class_named}
 use Rattle.jv_meaning_world.specs.Above.{is_above}
 use Rattle.jv_meaning_world.specs.Numbers.{IsNumbered}
-use Rattle.jv_meaning_world.proofs.Up.{same_name}
 use Rattle.jv_classes.proofs.Numbers.{number_at}
 use Rattle.jv_meaning_machine.specs.Objects.{is_below, is_at_or_below}
 use Rattle.jv_interp_control.proofs.StatesSet.{other_name}
@@ -23,18 +22,6 @@ unlike x y apart = by_test (nat_eq x y) refl
     by_test : (b : Bool) → nat_eq x y ≡ b → b ≡ false
     by_test true e = absurd (apart (eqb-true x y e))
     by_test false e = refl
-
--- ---- by name
-
-pub found_is_named : (world : World) (name : List ℕ) (s : Loaded) → class_named world name ≡ Some s → s.class.name ≡ name
-found_is_named [] name s e = absurd cc
-found_is_named (l ∷ world) name s e = by_test (bytes_eq l.class.name name) refl e (found_is_named world name s)
-  where
-    by_test :
-        (b : Bool) → bytes_eq l.class.name name ≡ b → (cond b (Some l) (class_named world name)) ≡ Some s
-        → (class_named world name ≡ Some s → s.class.name ≡ name) → s.class.name ≡ name
-    by_test true t e again = ap (λ (m : Loaded). m.class.name) (sym (same_some l s e)) ∙ same_name l.class.name name t
-    by_test false t e again = again e
 
 -- ---- by number
 

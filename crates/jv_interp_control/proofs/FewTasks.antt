@@ -16,7 +16,8 @@ use Rattle.jv_meaning_world.proofs.Standing.{loadable_by_all}
 use Rattle.jv_meaning_typing.specs.InitializationOrder.{enumerated, declares_default, init_order}
 use Rattle.jv_meaning_typing.specs.LinkingLaws.{IsInterfaceWay, IsNext, EachBehind, behind_superclass}
 use Rattle.jv_meaning_typing.proofs.Found.{in_found}
-use Rattle.jv_meaning_typing.proofs.Chain.{in_any, found_is_named, IsNamedIn, IsFresh, NoTwo, few}
+use Rattle.jv_meaning_world.proofs.Up.{found_is_named}
+use Rattle.jv_meaning_typing.proofs.Chain.{in_any, IsNamedIn, IsFresh, NoTwo, few}
 use Rattle.jv_meaning_typing.proofs.Enumerated.{init_order_is_by_rule}
 use Rattle.jv_loader.specs.Straight.{IsStraight}
 use Rattle.jv_loader.proofs.Straightness.{are_straight}

@@ -17,7 +17,7 @@ use Rattle.jv_meaning_machine.specs.State.{Program}
 use Rattle.jv_meaning_machine.specs.Throws.{is_caught_as, catches, handler_for}
 use Rattle.jv_interp_words.specs.declared.records.MethodRecord.{MethodRecord}
 use Rattle.jv_interp_control.specs.Inside.Handling.{Handling}
-use Rattle.jv_interp_control.proofs.ClassesAbove.{found_is_named}
+use Rattle.jv_meaning_world.proofs.Up.{found_is_named}
 use Rattle.jv_interp_control.proofs.Entered.{is_entered}
 
 same_found : {X : Type 0} (p q : X → Bool) → ((x : X) → p x ≡ q x) → (xs : List X) → find p xs ≡ find q xs

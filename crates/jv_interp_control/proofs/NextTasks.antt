@@ -14,7 +14,7 @@ use Rattle.jv_lookups.proofs.Found.{one_class_more, no_class_left}
 use Rattle.jv_link.specs.Orders.{IsOrder}
 use Rattle.jv_link_cache.specs.declared.linked.Linked.{Linked}
 use Rattle.jv_link_cache.specs.Tasks.{settings_of, IsInitializer}
-use Rattle.jv_link_cache.proofs.Going.{drop_at}
+use Rattle.jv_meaning_world.proofs.Lists.{drop_one_more}
 use Rattle.jv_meaning_machine.specs.Frames.{Task as TaskOfNames, InitializationFrame}
 use Rattle.jv_meaning_machine.specs.Frames.Task.{SetsField, InitializesFirst, RunsInitializer}
 use Rattle.jv_meaning_machine.specs.State.{Program, ClassStates, class_state, is_ready}
@@ -85,7 +85,7 @@ module _ (world : World) (linked : Linked) (own : InitializationRecord) (states 
         let next : own.done + 1 ≤ length constants = omega (arith, low, size) in
         let all : frame.tasks ≡ task ∷ drop (own.done + 1) (tasks_of program.world frame.class) =
         h.stands.tasks_are ∙ drop-append-le own.done constants rest here
-        ∙ ap (λ (l : List TaskOfNames). l ++ rest) (drop_at constants own.done task s.task)
+        ∙ ap (λ (l : List TaskOfNames). l ++ rest) (drop_one_more constants own.done task s.task)
         ∙ ap (λ (l : List TaskOfNames). task ∷ l) (sym (drop-append-le (own.done + 1) constants rest next)) in
         let from_zero : member - 0 ≡ member = omega arith in
         (task, ap (tasks_left known) all, (frame.class, s.f, s.constant, h.stands.has_number, subst (λ (n : ℕ). slice_get frame.class.class.fields n ≡ Some s.f) from_zero s.at, s.initial, refl))

@@ -3,6 +3,7 @@ use Rattle.std.proofs.Common.{◌≡◌, ℕ, zero, suc, ◌+◌, ◌<◌, ◌�
 use Rattle.std.specs.List.{flat_map}
 use Rattle.jv_meaning_world.specs.World.{Loaded, World}
 use Rattle.jv_meaning_world.specs.Overriding.{Declared}
+use Rattle.jv_meaning_world.proofs.Lists.{drop_there}
 use Rattle.jv_interp_words.specs.FramesInWords.{methods_of}
 use Rattle.jv_interp_members.specs.declared.methods.MethodRow.{MethodRow}
 use Rattle.jv_interp_members.specs.declared.methods.Methods.{Methods}
@@ -36,11 +37,6 @@ taken_more (x ∷ xs) zero l e = append-nil (own_methods x) ∙ ap own_methods (
 taken_more (x ∷ xs) (suc n) l e =
     ap (λ (ds : List Declared). own_methods x ++ ds) (taken_more xs n l e) ∙ sym (append_assoc (own_methods x) (methods_of (take n xs)) (own_methods l))
 
-dropped_more : {A : Type 0} (xs : List A) (n : ℕ) (x : A) → slice_get xs n ≡ Some x → drop n xs ≡ x ∷ drop (suc n) xs
-dropped_more [] n x e = absurd cc
-dropped_more (y ∷ ys) zero x e = ap (λ z. z ∷ ys) (some_same e)
-dropped_more (y ∷ ys) (suc n) x e = dropped_more ys n x e
-
 one_more : (n : ℕ) → n + 1 ≡ suc n
 one_more n = omega arith
 
@@ -61,7 +57,7 @@ first_joins world class number next l firsts at next_is h =
     append_assoc firsts (number ∷ []) (firsts_from next (drop (class + 1) world))
     ∙ ap (λ (k : ℕ). firsts ++ number ∷ firsts_from next (drop k world)) (one_more class)
     ∙ ap (λ (k : ℕ). firsts ++ number ∷ firsts_from k rest) next_is
-    ∙ sym (ap (λ (ls : World). firsts ++ firsts_from number ls) (dropped_more world class l at)) ∙ h
+    ∙ sym (ap (λ (ls : World). firsts ++ firsts_from number ls) (drop_there world class l at)) ∙ h
 
 pub methods_made :
     (world : World) (methods : Methods) (class : ℕ) → length world ≤ class → AreRows world (methods_of (take class world)) methods.rows.items

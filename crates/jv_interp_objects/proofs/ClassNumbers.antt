@@ -1,5 +1,5 @@
 -- Classes by their numbers: which is another one or below it, and which are above arrays (JVMS 4.10.1.2, 6.5).
-use Rattle.std.proofs.Common.{◌≡◌, ℕ, zero, suc, Bool, true, false, cond, ◌||◌, nat_le, List, [], ◌∷◌, Option, Some, refl, sym, ap, subst, ◌∙◌, arith, slice_get}
+use Rattle.std.proofs.Common.{◌≡◌, ℕ, zero, suc, Bool, true, false, ◌||◌, nat_le, List, [], ◌∷◌, Option, Some, refl, sym, ap, subst, ◌∙◌, arith, slice_get}
 use Rattle.std.specs.Prelude.{codes}
 use Rattle.std.specs.Str.{bytes_eq}
 use Rattle.jv_class.specs.Class.{Class}
@@ -9,7 +9,7 @@ use Rattle.jv_meaning_world.specs.World.{Loaded, World, class_named, world_of}
 use Rattle.jv_meaning_world.specs.Above.{is_above}
 use Rattle.jv_meaning_world.specs.Flow.{is_above_arrays}
 use Rattle.jv_meaning_world.specs.Numbers.{IsNumbered, number_named}
-use Rattle.jv_meaning_world.proofs.Up.{same_name}
+use Rattle.jv_meaning_world.proofs.Up.{same_name, found_is_named}
 use Rattle.jv_classes.proofs.Numbers.{number_at}
 use Rattle.jv_classes.proofs.Told.{other_name}
 use Rattle.jv_meaning_machine.specs.Objects.{is_below, is_at_or_below}
@@ -18,19 +18,8 @@ use Rattle.jv_interp_heap.specs.SystemNumbers.{IsGuestsWorld}
 use Rattle.std.proofs.lemmas.Grind.{common_steps}
 use Rattle.std.proofs.lemmas.Option.{same_Some}
 
--- ---- the class that a name finds has this name
+-- ---- a class of the world is found by its own name
 
-pub found_is_named : (world : World) (name : List ℕ) (s : Loaded) → class_named world name ≡ Some s → s.class.name ≡ name
-found_is_named [] name s e = absurd cc
-found_is_named (l ∷ world) name s e = by_test (bytes_eq l.class.name name) refl e (found_is_named world name s)
-  where
-    by_test :
-        (b : Bool) → bytes_eq l.class.name name ≡ b → (cond b (Some l) (class_named world name)) ≡ Some s
-        → (class_named world name ≡ Some s → s.class.name ≡ name) → s.class.name ≡ name
-    by_test true t e again = ap (λ (m : Loaded). m.class.name) (sym (same_Some l s e)) ∙ same_name l.class.name name t
-    by_test false t e again = again e
-
--- and a class of the world is found by its own
 pub own_name : (world : World) → IsNumbered world → (class : ℕ) (l : Loaded) → slice_get world class ≡ Some l → class_named world l.class.name ≡ Some l
 own_name world numbers class l at = number_at world l.class.name class (numbers class l at) ∙ at
 

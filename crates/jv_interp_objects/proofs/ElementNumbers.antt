@@ -12,7 +12,8 @@ use Rattle.std.proofs.lemmas.Option.{slice_get_within}
 use Rattle.jv_meaning_machine.specs.Objects.{is_at_or_below}
 use Rattle.jv_interp_heap.specs.ObjectsInBlocks.{base_number, IsElement}
 use Rattle.jv_interp_heap.specs.SystemNumbers.{IsGuestsWorld}
-use Rattle.jv_interp_objects.proofs.ClassNumbers.{found_is_named, above_arrays}
+use Rattle.jv_meaning_world.proofs.Up.{found_is_named}
+use Rattle.jv_interp_objects.proofs.ClassNumbers.{above_arrays}
 
 -- ---- base types
 

@@ -1,5 +1,5 @@
 -- Whether a class has a default, method by method.
-use Rattle.std.proofs.Common.{◌≡◌, ℕ, zero, suc, ◌+◌, ◌<◌, ◌≤◌, Bool, true, false, ◌||◌, List, [], ◌∷◌, ◌++◌, length, get_or, drop, Option, Some, None, refl, sym, ap, ◌∙◌, add-one, append_assoc, append-nil, arith}
+use Rattle.std.proofs.Common.{◌≡◌, ℕ, zero, suc, ◌+◌, ◌<◌, ◌≤◌, Bool, true, false, ◌||◌, List, [], ◌∷◌, ◌++◌, length, get_or, drop, Option, Some, None, refl, sym, ap, ◌∙◌, append_assoc, append-nil, arith}
 use Rattle.std.specs.Prelude.{slice_get, if◌then◌else◌}
 use Rattle.std.specs.List.{All, list_any, filter_map, cons_option}
 use Rattle.std.specs.Option.{option_map}
@@ -10,6 +10,7 @@ use Rattle.jv_meaning_world.specs.Above.{superclass_names}
 use Rattle.jv_meaning_world.specs.Overriding.{Declared}
 use Rattle.jv_meaning_world.specs.Verdicts.{declared_by}
 use Rattle.jv_meaning_world.specs.Numbers.{number_named, superclass_number}
+use Rattle.jv_meaning_world.proofs.Lists.{drop_one_more}
 use Rattle.jv_meaning_world.specs.Numbers.{HoldsAtNumber}
 use Rattle.jv_classes.proofs.Followed.{at_named, some_class}
 use Rattle.jv_lookups.specs.declared.place.Place.{Place}
@@ -20,18 +21,6 @@ use Rattle.jv_lookups.proofs.Found.{one_class_more, no_class_left}
 use Rattle.jv_lookups.proofs.Next.{those_at}
 use Rattle.jv_meaning_typing.specs.InitializationOrder.{is_default, declares_default}
 use Rattle.jv_link.specs.Inside.Enumerating.{with_default, superclass_first}
-
-open_at : {X : Type 0} → (xs : List X) (i : ℕ) (x : X) → slice_get xs i ≡ Some x → drop i xs ≡ x ∷ drop (suc i) xs
-open_at [] zero x e = absurd cc
-open_at [] (suc i) x e = absurd cc
-open_at (y ∷ xs) zero x e = ap (λ z. z ∷ xs) (same e)
-  where
-    same : Some y ≡ Some x → y ≡ x
-    same e = cc
-open_at (y ∷ xs) (suc i) x e = open_at xs i x e
-
-pub opened_at : {X : Type 0} → (xs : List X) (i : ℕ) (x : X) → slice_get xs i ≡ Some x → drop i xs ≡ x ∷ drop (i + 1) xs
-opened_at xs i x e = open_at xs i x e ∙ ap (λ n. x ∷ drop n xs) (sym (add-one i))
 
 -- ---- numbers of one class
 
@@ -61,11 +50,11 @@ method_there world place l d at e = by_method (slice_get l.class.methods place.m
 
 pub has_default : (l : Loaded) (i : ℕ) (m : Method) → slice_get l.class.methods i ≡ Some m → is_default m ≡ true → list_any is_default
     (drop i l.class.methods) ≡ declares_default l → true ≡ declares_default l
-has_default l i m at is left = sym (ap (list_any is_default) (opened_at l.class.methods i m at) ∙ ap (λ b. b || list_any is_default (drop (i + 1) l.class.methods)) is) ∙ left
+has_default l i m at is left = sym (ap (list_any is_default) (drop_one_more l.class.methods i m at) ∙ ap (λ b. b || list_any is_default (drop (i + 1) l.class.methods)) is) ∙ left
 
 pub no_default : (l : Loaded) (i : ℕ) (m : Method) → slice_get l.class.methods i ≡ Some m → is_default m ≡ false → list_any is_default
     (drop i l.class.methods) ≡ declares_default l → list_any is_default (drop (i + 1) l.class.methods) ≡ declares_default l
-no_default l i m at is left = sym (ap (list_any is_default) (opened_at l.class.methods i m at) ∙ ap (λ b. b || list_any is_default (drop (i + 1) l.class.methods)) is) ∙ left
+no_default l i m at is left = sym (ap (list_any is_default) (drop_one_more l.class.methods i m at) ∙ ap (λ b. b || list_any is_default (drop (i + 1) l.class.methods)) is) ∙ left
 
 past_all : {X : Type 0} → (test : X → Bool) (xs : List X) (i : ℕ) → length xs ≤ i → list_any test (drop i xs) ≡ false
 past_all test [] zero h = refl

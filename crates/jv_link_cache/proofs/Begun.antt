@@ -14,7 +14,7 @@ use Rattle.jv_class.specs.ClassFile.{class_name}
 use Rattle.jv_class.specs.Value.{value_of_field}
 use Rattle.jv_link_cache.specs.Tasks.{value_at, settings_from}
 use Rattle.jv_link_cache.proofs.Bodied.{chained, all_found_at, map_at}
-use Rattle.jv_link_cache.proofs.Going.{drop_at}
+use Rattle.jv_meaning_world.proofs.Lists.{drop_one_more}
 
 same_some : {A : Type 0} → {x y : A} → Some x ≡ Some y → x ≡ y
 same_some e = cc
@@ -84,7 +84,7 @@ none_stands c class e k f at here = ap (λ (o : Option ℕ). o >>= value_at c.co
 pub settings_go_on : (fs : List Field) (k : ℕ) (f : Field) (b : Bool) (settings all : List ℕ) → slice_get fs k ≡ Some f → b ≡ is_some f.initial
     → settings ++ settings_from k (drop k fs) ≡ all
     → (if b then settings ++ k ∷ [] else settings) ++ settings_from (k + 1) (drop (k + 1) fs) ≡ all
-settings_go_on fs k f b settings all at is before = by_test b is ∙ (ap (λ gs. settings ++ settings_from k gs) (sym (drop_at fs k f at)) ∙ before)
+settings_go_on fs k f b settings all at is before = by_test b is ∙ (ap (λ gs. settings ++ settings_from k gs) (sym (drop_one_more fs k f at)) ∙ before)
   where
     rest : List ℕ
     rest = settings_from (k + 1) (drop (k + 1) fs)

@@ -1,5 +1,5 @@
 -- A class has a name or is below the class of that name (JVMS 2.10), by their numbers.
-use Rattle.std.proofs.Common.{◌≡◌, ◌≢◌, ◌==◌, ℕ, zero, suc, Bool, true, false, cond, ◌||◌, List, [], ◌∷◌, length, Option, Some, None, slice_get, refl, sym, ap, ◌∙◌, arith}
+use Rattle.std.proofs.Common.{◌≡◌, ◌≢◌, ◌==◌, ℕ, zero, suc, Bool, true, false, ◌||◌, List, [], ◌∷◌, length, Option, Some, None, slice_get, refl, sym, ap, ◌∙◌, arith}
 use Rattle.std.specs.List.{filter_map, flat_map, list_any, cons_option}
 use Rattle.std.specs.Str.{bytes_eq}
 use Rattle.std.specs.Cmp.Lexicographic.{nat_list_eq_equiv}
@@ -8,7 +8,7 @@ use Rattle.jv_class.specs.Class.{Class}
 use Rattle.jv_meaning_world.specs.World.{Loaded, World, class_named}
 use Rattle.jv_meaning_world.specs.Above.{super_names, supers_in, above_within, is_above}
 use Rattle.jv_meaning_world.specs.Numbers.{IsNumbered, number_named}
-use Rattle.jv_meaning_world.proofs.Up.{same_name}
+use Rattle.jv_meaning_world.proofs.Up.{same_name, found_is_named}
 use Rattle.jv_classes.proofs.Numbers.{numbered}
 use Rattle.std.specs.Prelude.{if◌then◌else◌}
 use Rattle.std.proofs.lemmas.Bool.Decides.{nat_tests}
@@ -43,16 +43,6 @@ of_other world n m l k numbers at there apart =
     either (bytes_eq l.class.name k.class.name) (is_above world k.class.name l.class) (other_name world n m l k numbers at there apart)
 
 -- ---- a name that no class has is above none
-
-pub found_is_named : (world : World) (name : List ℕ) (s : Loaded) → class_named world name ≡ Some s → s.class.name ≡ name
-found_is_named [] name s e = absurd cc
-found_is_named (l ∷ world) name s e = by_test (bytes_eq l.class.name name) refl e (found_is_named world name s)
-  where
-    by_test :
-        (b : Bool) → bytes_eq l.class.name name ≡ b → (cond b (Some l) (class_named world name)) ≡ Some s
-        → (class_named world name ≡ Some s → s.class.name ≡ name) → s.class.name ≡ name
-    by_test true t e again = ap (λ (m : Loaded). m.class.name) (sym (same_some l s e)) ∙ same_name l.class.name name t
-    by_test false t e again = again e
 
 module _ (world : World) (name : List ℕ) (absent : class_named world name ≡ None) where
   abbrev test : Loaded → Bool

@@ -7,6 +7,7 @@ use Rattle.std.proofs.lemmas.List.Sums.{sum_by-cons}
 use Rattle.jv_class.specs.Class.{Field}
 use Rattle.jv_meaning_world.specs.World.{Loaded, World}
 use Rattle.jv_meaning_world.specs.Numbers.{classes_at, AreNumbers, HoldsAtNumber}
+use Rattle.jv_meaning_world.proofs.Lists.{drop_one_more}
 use Rattle.jv_classes.specs.Members.{IsField}
 use Rattle.jv_classes.specs.declared.member.Member.{Member}
 use Rattle.jv_classes.proofs.Followed.{some_class}
@@ -15,19 +16,6 @@ use Rattle.jv_lookups.proofs.Found.{one_class_more}
 use Rattle.jv_link_cache.specs.declared.words.Ends.{Ends}
 use Rattle.jv_link_cache.specs.declared.words.ClassWords.{ClassWords}
 use Rattle.jv_link_cache.specs.Inside.Words.{word_in, behind, words_from, ends_from, own_words, inherited_words, first_ends, seen_words, all_words, static_end}
-
--- ---- what is left of a list
-
-pub drop_at : {X : Type 0} → (xs : List X) (k : ℕ) (x : X) → slice_get xs k ≡ Some x → drop k xs ≡ x ∷ drop (k + 1) xs
-drop_at [] zero x e = absurd cc
-drop_at [] (suc k) x e = absurd cc
-drop_at (y ∷ xs) zero x e = ap (λ z. z ∷ xs) (same_some e)
-  where
-    same_some : {X : Type 0} → {a b : X} → Some a ≡ Some b → a ≡ b
-    same_some h = cc
-drop_at (y ∷ xs) (suc k) x e =
-    let later : suc (k + 1) ≡ suc k + 1 = omega arith in
-    drop_at xs k x e ∙ ap (λ n. x ∷ drop n (y ∷ xs)) later
 
 some_and : {X : Type 0} → (o : Option X) (P : X → Type 0) → IsSomeAnd o P → (x : X) × (o ≡ Some x) × P x
 some_and None P h = absurd h
@@ -39,7 +27,7 @@ pub ends_go_on : (fs : List Field) (k : ℕ) (member : Member) (ends next first 
     → ((f : Field) → IsField member f → next ≡ behind f ends) → ends_from ends (drop k fs) ≡ ends_from first fs → ends_from next (drop (k + 1) fs) ≡ ends_from first fs
 ends_go_on fs k member ends next first is clause before =
     let found = some_and (slice_get fs k) (IsField member) is in
-    ap (λ e. ends_from e (drop (k + 1) fs)) (clause found.0 found.2) ∙ (ap (ends_from ends) (sym (drop_at fs k found.0 found.1)) ∙ before)
+    ap (λ e. ends_from e (drop (k + 1) fs)) (clause found.0 found.2) ∙ (ap (ends_from ends) (sym (drop_one_more fs k found.0 found.1)) ∙ before)
 
 pub words_go_on : (fs : List Field) (k : ℕ) (member : Member) (ends next first : Ends) (words : List ℕ) (word : ℕ) → IsSomeAnd (slice_get fs k) (IsField member)
     → ((f : Field) → IsField member f → word ≡ word_in f ends) → ((f : Field) → IsField member f → next ≡ behind f ends)
@@ -49,7 +37,7 @@ words_go_on fs k member ends next first words word is clause next_is before =
     append_assoc words (word ∷ []) (words_from next (drop (k + 1) fs))
     ∙ (ap (λ w. words ++ w ∷ words_from next (drop (k + 1) fs)) (clause found.0 found.2)
     ∙ (ap (λ e. words ++ word_in found.0 ends ∷ words_from e (drop (k + 1) fs)) (next_is found.0 found.2)
-    ∙ (ap (λ gs. words ++ words_from ends gs) (sym (drop_at fs k found.0 found.1)) ∙ before)))
+    ∙ (ap (λ gs. words ++ words_from ends gs) (sym (drop_one_more fs k found.0 found.1)) ∙ before)))
 
 -- ---- classes
 
@@ -103,10 +91,10 @@ classes_go_on world k object statics next all words current h current_is object_
       ∙ (append_assoc (map seen_words all) (seen_words words ∷ []) (all_words world next (drop (k + 1) world))
       ∙ (ap (λ w. map seen_words all ++ w ∷ all_words world next (drop (k + 1) world)) (words_is ∙ ap shown same)
       ∙ (ap (λ n. map seen_words all ++ shown (first_ends world statics class.0, class.0) ∷ all_words world n (drop (k + 1) world)) (next_is ∙ ap last same)
-      ∙ (ap (λ ls. map seen_words all ++ all_words world statics ls) (sym (drop_at world k class.0 class.1)) ∙ before.words_of))));
+      ∙ (ap (λ ls. map seen_words all ++ all_words world statics ls) (sym (drop_one_more world k class.0 class.1)) ∙ before.words_of))));
   statics_of =
       ap (λ n. static_end world n (drop (k + 1) world)) (next_is ∙ ap last same)
-      ∙ (ap (static_end world statics) (sym (drop_at world k class.0 class.1)) ∙ before.statics_of);
+      ∙ (ap (static_end world statics) (sym (drop_one_more world k class.0 class.1)) ∙ before.statics_of);
 }
   where
     class : (l : Loaded) × (slice_get world k ≡ Some l)

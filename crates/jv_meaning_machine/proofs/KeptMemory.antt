@@ -10,7 +10,7 @@ use Rattle.std.proofs.Math.Seq.{map-set_same}
 use Rattle.jv_meaning_world.specs.World.{Loaded, World, class_named}
 use Rattle.jv_meaning_world.specs.LookUps.{DeclaredField}
 use Rattle.jv_meaning_typing.specs.Layout.{instance_fields}
-use Rattle.jv_meaning_typing.proofs.Chain.{found_is_named}
+use Rattle.jv_meaning_world.proofs.Up.{found_is_named}
 use Rattle.jv_meaning_machine.specs.Values.{Value}
 use Rattle.jv_meaning_machine.specs.Objects.{FieldKey, key_of, Content, default_entry, new_instance, Object, is_constructed, same_key, with_value}
 use Rattle.jv_meaning_machine.specs.Objects.Object.{InstanceOf}

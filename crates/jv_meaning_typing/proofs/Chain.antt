@@ -12,8 +12,8 @@ use Rattle.jv_class.specs.Class.{Class}
 use Rattle.jv_meaning_world.specs.World.{Loaded, World, class_named}
 use Rattle.jv_meaning_world.specs.Above.{above, is_circular, class_if_named, superclass_in, chain_within, superclasses}
 use Rattle.jv_meaning_world.specs.Laws.Above.{AboveByWays, AboveIsTransitive}
-use Rattle.jv_meaning_world.proofs.Up.{none, first, later, name_of, names_of, named_is_member}
-use Rattle.jv_meaning_typing.proofs.Found.{split, in_find, same_text}
+use Rattle.jv_meaning_world.proofs.Up.{none, first, later, name_of, names_of, named_is_member, found_is_named}
+use Rattle.jv_meaning_typing.proofs.Found.{split, same_text}
 use Rattle.jv_meaning_typing.proofs.Searched.{AllOf, superclass_is_super, of_chain, direct}
 
 pub in_any : {X : Type 0} (test : X → Bool) (xs : List X) (x : X) → Contains xs x → IsTrue (test x) → IsTrue (list_any test xs)
@@ -33,9 +33,6 @@ in_any test (y ∷ xs) x h t = by_part (λ k. in_any test xs x k t) (split y xs 
     by_part again (inr k) = right (test y) (list_any test xs) (again k)
 
 -- ---- names of classes in the world
-
-pub found_is_named : (world : World) (name : List ℕ) (s : Loaded) → class_named world name ≡ Some s → s.class.name ≡ name
-found_is_named world name s e = same_text s.class.name name (in_find (λ l. bytes_eq l.class.name name) world s e)
 
 abbrev pub IsNamedIn : World → Loaded → Type 0
 IsNamedIn world l = class_named world l.class.name ≡ Some l

@@ -16,7 +16,8 @@ use Rattle.jv_meaning_typing.specs.LinkingLaws.{IsInterfaceWay, IsOwnSuperinterf
 use Rattle.jv_meaning_world.proofs.Up.{none, single, first, later}
 use Rattle.jv_meaning_typing.proofs.Found.{split, in_filter, in_found, same_text}
 use Rattle.jv_meaning_typing.proofs.Searched.{AllOf, of_joined, of_fold, of_given, interfaces_above}
-use Rattle.jv_meaning_typing.proofs.Chain.{in_any, found_is_named, IsNamedIn, IsFresh, NoTwo, few}
+use Rattle.jv_meaning_world.proofs.Up.{found_is_named}
+use Rattle.jv_meaning_typing.proofs.Chain.{in_any, IsNamedIn, IsFresh, NoTwo, few}
 
 clash : {b : Bool} → IsTrue b → IsFalse b → ⊥
 clash h k = unlike (sym h ∙ k)

@@ -1,5 +1,6 @@
 pub mod Contents
 pub mod Libraries
+pub mod Lists
 pub mod Order
 pub mod OrderAbove
 pub mod OrderChains

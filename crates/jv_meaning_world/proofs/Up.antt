@@ -71,7 +71,7 @@ module _ {X Y : Type 0} (look : X → Option Y) where
 pub same_name : (a b : List ℕ) → bytes_eq a b ≡ true → a ≡ b
 same_name a b e = (bytes_eq-Decides a b).0 e
 
-found_is_named : (world : World) (name : List ℕ) (s : Loaded) → class_named world name ≡ Some s → s.class.name ≡ name
+pub found_is_named : (world : World) (name : List ℕ) (s : Loaded) → class_named world name ≡ Some s → s.class.name ≡ name
 found_is_named [] name s e = absurd cc
 found_is_named (l ∷ world) name s e = by_test (bytes_eq l.class.name name) refl (λ k. found_is_named world name s k) e
   where
