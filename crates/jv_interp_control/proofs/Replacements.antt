@@ -1,6 +1,7 @@
 -- What is thrown behind the initialization of a class (JVMS 5.5).
 use Rattle.std.proofs.Common.{◌≡◌, ℕ, ◌+◌, ◌-◌, ◌^◌, ◌<◌, min, Bool, true, false, List, [], ◌∷◌, ◌++◌, Option, Some, Ok, codes, drop, length, get_or, replicate, reverse, slice_get, refl, sym, ap, subst, ◌∙◌, arith, append-nil}
 use Rattle.std.specs.Prelude.{unwrap_or}
+use Rattle.std.specs.Option.{option_or}
 use Rattle.std.proofs.lemmas.Option.{slice_get_within}
 use Rattle.jv_store.specs.Content.{words_at}
 use Rattle.jv_meaning_world.specs.World.{Loaded, World, class_named}
@@ -10,9 +11,9 @@ use Rattle.jv_meaning_machine.specs.Faults.{OrFault, found, ◌>>=◌}
 use Rattle.jv_meaning_machine.specs.Faults.Fault.{ReferenceFault}
 use Rattle.jv_meaning_machine.specs.Objects.{is_at_or_below}
 use Rattle.jv_meaning_machine.specs.Frames.{Frame}
-use Rattle.jv_meaning_machine.specs.State.{Program, Memory, Control}
+use Rattle.jv_meaning_machine.specs.State.{Program, Memory, ThrowPlace, Control}
 use Rattle.jv_meaning_machine.specs.Costs.{paid}
-use Rattle.jv_meaning_machine.specs.Throws.{Thrown, place_in, thrown, exception, exception_made, replacement_if}
+use Rattle.jv_meaning_machine.specs.Throws.{Thrown, replacement_place, thrown, exception, exception_made, replacement_if}
 use Rattle.jv_interp_words.specs.declared.records.FrameRecord.{FrameRecord}
 use Rattle.jv_interp_words.proofs.Gave.{bound_gave, found_gave}
 use Rattle.jv_interp_heap.specs.ObjectsInBlocks.{Blocks, HasNumber}
@@ -27,7 +28,7 @@ use Rattle.jv_interp_control.specs.ControlStands.{PlaceStands}
 use Rattle.jv_interp_control.specs.Inside.Places.{record_place}
 use Rattle.jv_interp_control.specs.Exceptions.{IsMade}
 use Rattle.jv_interp_control.specs.Inside.Walking.{ThrownStands, Replacing, Replaced}
-use Rattle.jv_interp_control.proofs.ClassesAbove.{found_is_named}
+use Rattle.jv_meaning_world.proofs.Up.{found_is_named}
 use Rattle.jv_interp_control.proofs.MemoryJoined.{ExceptionStands, made_of, grows_not}
 use Rattle.jv_interp_control.proofs.ThrownAgain.{initializer_error, IsThrown, is_thrown, has_word, thrown_stands, thrown_control}
 
@@ -60,28 +61,28 @@ numbered_class world name class l h e =
 
 -- ---- an exception that the machine makes and throws, of a class with a number
 
-pub record NewThrown (world : World) (name : List ℕ) (frames : List Frame) (control : Control) (memory : Memory) (t : Thrown) : Type 0 where
+pub record NewThrown (world : World) (name : List ℕ) (place : Option ThrowPlace) (control : Control) (memory : Memory) (t : Thrown) : Type 0 where
   pub l : Loaded
   pub named : class_named world name ≡ Some l
-  pub thrown_is : IsThrown frames control (exception_made world l memory (paid (object_cells world l) memory)) t
-  pub throws : thrown frames control (exception_made world l memory (paid (object_cells world l) memory)) ≡ Ok t
+  pub thrown_is : IsThrown place control (exception_made world l memory (paid (object_cells world l) memory)) t
+  pub throws : thrown place control (exception_made world l memory (paid (object_cells world l) memory)) ≡ Ok t
 
 pub new_thrown :
-    (world : World) (name : List ℕ) (frames : List Frame) (control : Control) (memory : Memory) (t : Thrown)
-    → (exception world name memory >>= thrown frames control) ≡ Ok t → NewThrown world name frames control memory t
-new_thrown world name frames control memory t e =
-    let made = bound_gave (exception world name memory) (thrown frames control) t e in
+    (world : World) (name : List ℕ) (place : Option ThrowPlace) (control : Control) (memory : Memory) (t : Thrown)
+    → (exception world name memory >>= thrown place control) ≡ Ok t → NewThrown world name place control memory t
+new_thrown world name place control memory t e =
+    let made = bound_gave (exception world name memory) (thrown place control) t e in
     let l = bound_gave (found ReferenceFault (class_named world name)) (λ (l : Loaded). Ok (exception_made world l memory (paid (object_cells world l) memory))) made.0 made.1 in
     let is = same_ok (exception_made world l.0 memory (paid (object_cells world l.0) memory)) made.0 l.2 in
     record {
       l = l.0;
       named = found_gave ReferenceFault (class_named world name) l.0 l.1;
-      thrown_is = subst (λ (m : Memory × ℕ). IsThrown frames control m t) (sym is) (is_thrown frames control made.0 t made.2);
-      throws = subst (λ (m : Memory × ℕ). thrown frames control m ≡ Ok t) (sym is) made.2;
+      thrown_is = subst (λ (m : Memory × ℕ). IsThrown place control m t) (sym is) (is_thrown place control made.0 t made.2);
+      throws = subst (λ (m : Memory × ℕ). thrown place control m ≡ Ok t) (sym is) made.2;
     }
 
-module _ (program : Program) (texts : List (List ℕ)) (name : List ℕ) (frames : List Frame) (control : Control) (memory : Memory) (t : Thrown) (addresses : List ℕ)
-    (held after : Held) (before blocks : Blocks) (class words : ℕ) (made : Option ℕ) (n : NewThrown program.world name frames control memory t)
+module _ (program : Program) (texts : List (List ℕ)) (name : List ℕ) (place : Option ThrowPlace) (control : Control) (memory : Memory) (t : Thrown) (addresses : List ℕ)
+    (held after : Held) (before blocks : Blocks) (class words : ℕ) (made : Option ℕ) (n : NewThrown program.world name place control memory t)
     (h : MemoryStands program.world texts memory addresses held before) (has : HasNumber program.world name class)
     (size : HoldsAtNumber program.world class (λ l. words ≡ object_words program.world l)) (few : class < 2147483648)
     (same : after ≡ record held { cells = after.cells }) (is_made : IsMade class words held.cells after.cells before blocks made) where
@@ -103,12 +104,12 @@ module _ (program : Program) (texts : List (List ℕ)) (name : List ℕ) (frames
 
   pub exception_thrown :
       (now : ThrownInWords) (throws : ℕ) → now.address ≡ unwrap_or made held.out_of_memory → get_or (words_at blocks now.address) 0 0 ≡ now.class
-      → control.throws ≡ throws → now.throws ≡ min (throws + 1) (2 ^ 64 - 1) → PlaceStands program.world (place_in frames) now.place
+      → control.throws ≡ throws → now.throws ≡ min (throws + 1) (2 ^ 64 - 1) → PlaceStands program.world place now.place
       → ThrownStands program texts t (addresses ++ exception_stands.more) now after blocks
-  exception_thrown now throws at word throws_are more place =
+  exception_thrown now throws at word throws_are more there =
       let s = exception_stands in
-      thrown_stands program texts frames control (exception_made program.world n.l memory (paid (object_cells program.world n.l) memory)) t (addresses ++ s.more) after blocks
-      now throws s.memory (s.object ∙ ap Some (sym at)) n.thrown_is word throws_are more place
+      thrown_stands program texts place control (exception_made program.world n.l memory (paid (object_cells program.world n.l) memory)) t (addresses ++ s.more) after blocks
+      now throws s.memory (s.object ∙ ap Some (sym at)) n.thrown_is word throws_are more there
 
 -- the word of a new one
 pub new_word : (class words address : ℕ) (before blocks : Blocks) → Joins (class ∷ replicate words 0) before blocks address → get_or (words_at blocks address) 0 0 ≡ class
@@ -158,9 +159,11 @@ module _ (world : World) (all : List FrameRecord) (passed : ℕ) (program : Prog
         grows = grows_not addresses blocks;
       })
 
-  pub new_behind : is_at_or_below program.world t.class (codes "java/lang/Error") ≡ false → NewThrown program.world (codes "java/lang/ExceptionInInitializerError") below t.control t.memory behind
+  pub new_behind :
+      is_at_or_below program.world t.class (codes "java/lang/Error") ≡ false
+      → NewThrown program.world (codes "java/lang/ExceptionInInitializerError") (replacement_place below t.control) t.control t.memory behind
   new_behind e =
-      new_thrown program.world (codes "java/lang/ExceptionInInitializerError") below t.control t.memory behind
+      new_thrown program.world (codes "java/lang/ExceptionInInitializerError") (replacement_place below t.control) t.control t.memory behind
       (ap (λ (b : Bool). replacement_if program.world t below b) (sym e) ∙ h.goes)
 
   pub replaced_by :
@@ -169,21 +172,21 @@ module _ (world : World) (all : List FrameRecord) (passed : ℕ) (program : Prog
       → HoldsAtNumber program.world 23 (λ l. words ≡ object_words program.world l) → after ≡ record held { cells = after.cells }
       → IsMade 23 words held.cells after.cells blocks blocks_after made → next.address ≡ unwrap_or made held.out_of_memory
       → get_or (words_at blocks_after next.address) 0 0 ≡ next.class → next.throws ≡ min (now.throws + 1) (2 ^ 64 - 1)
-      → next.place ≡ record_place (drop passed (reverse all))
+      → next.place ≡ option_or (record_place (drop passed (reverse all))) now.place
       → Replaced program texts t behind addresses blocks next after blocks_after
   replaced_by after blocks_after words made next e size same is_made at word throws place =
       let n = new_behind e in
       let name = codes "java/lang/ExceptionInInitializerError" in
       let s =
-      exception_stands program texts name below t.control t.memory behind addresses held after blocks blocks_after 23 words made n h.stands.memory numbers.in_initializer size
-      (omega arith) same is_made in
+      exception_stands program texts name (replacement_place below t.control) t.control t.memory behind addresses held after blocks blocks_after 23 words made n h.stands.memory
+      numbers.in_initializer size (omega arith) same is_made in
       record {
         more = s.more;
         stands =
-            exception_thrown program texts name below t.control t.memory behind addresses held after blocks blocks_after 23 words made n h.stands.memory numbers.in_initializer size
-            (omega arith) same is_made next now.throws at word h.stands.throws throws
-            (subst (λ (o : Option PlaceRecord). PlaceStands program.world (place_in below) o) (sym place) h.place);
-        control_is = thrown_control below t.control _ behind n.thrown_is;
+            exception_thrown program texts name (replacement_place below t.control) t.control t.memory behind addresses held after blocks blocks_after 23 words made n h.stands.memory
+            numbers.in_initializer size (omega arith) same is_made next now.throws at word h.stands.throws throws
+            (subst (λ (o : Option PlaceRecord). PlaceStands program.world (replacement_place below t.control) o) (sym place) h.place);
+        control_is = thrown_control (replacement_place below t.control) t.control _ behind n.thrown_is;
         grows = s.grows;
       }
 
@@ -192,5 +195,5 @@ module _ (world : World) (all : List FrameRecord) (passed : ℕ) (program : Prog
       → HoldsAtNumber program.world 23 (λ l. words ≡ object_words program.world l) → after ≡ record held { cells = after.cells }
       → IsMade 23 words held.cells after.cells blocks blocks_after made → 0 < length (words_at blocks_after (unwrap_or made held.out_of_memory))
   word_there after blocks_after words made e size same is_made =
-      exception_word program texts (codes "java/lang/ExceptionInInitializerError") below t.control t.memory behind addresses held after blocks blocks_after 23 words made (new_behind e)
-      h.stands.memory numbers.in_initializer size (omega arith) same is_made
+      exception_word program texts (codes "java/lang/ExceptionInInitializerError") (replacement_place below t.control) t.control t.memory behind addresses held after blocks blocks_after 23 words made
+      (new_behind e) h.stands.memory numbers.in_initializer size (omega arith) same is_made

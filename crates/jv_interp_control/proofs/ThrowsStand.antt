@@ -38,13 +38,13 @@ module _ (world : World) (address : ℕ) (program : Program) (texts : List (List
     (h : Moves world (Throwing address) program texts s t addresses (kept frames control held blocks)) where
   pub record IsGoing : Type 0 where
     pub th : ThrownOfNames
-    pub is : IsThrown s.frames s.control (s.memory, h.does.object) th
+    pub is : IsThrown (place_in s.frames) s.control (s.memory, h.does.object) th
     pub goes : unwound program.world th s.frames ≡ Ok t
 
   pub is_going : IsGoing
   is_going =
-      let parts = bound_gave (thrown s.frames s.control (s.memory, h.does.object)) (λ (th : ThrownOfNames). unwound program.world th s.frames) t h.does.does in
-      record { th = parts.0; is = is_thrown s.frames s.control (s.memory, h.does.object) parts.0 parts.1; goes = parts.2 }
+      let parts = bound_gave (thrown (place_in s.frames) s.control (s.memory, h.does.object)) (λ (th : ThrownOfNames). unwound program.world th s.frames) t h.does.does in
+      record { th = parts.0; is = is_thrown (place_in s.frames) s.control (s.memory, h.does.object) parts.0 parts.1; goes = parts.2 }
 
   pub few_records : length frames.records.items < 4294967296
   few_records =
@@ -67,9 +67,9 @@ module _ (world : World) (address : ℕ) (program : Program) (texts : List (List
         guests = h.guests;
         frames_stand = h.stands.frames;
         control_stands = h.stands.control;
-        control_is = thrown_control s.frames s.control (s.memory, h.does.object) is_going.th is_going.is;
+        control_is = thrown_control (place_in s.frames) s.control (s.memory, h.does.object) is_going.th is_going.is;
         thrown_stands =
-            thrown_stands program texts s.frames s.control (s.memory, h.does.object) is_going.th addresses held blocks now control.throws h.stands.memory (h.does.at ∙ ap Some (sym at))
+            thrown_stands program texts (place_in s.frames) s.control (s.memory, h.does.object) is_going.th addresses held blocks now control.throws h.stands.memory (h.does.at ∙ ap Some (sym at))
             is_going.is (ap (λ (a : ℕ). get_or (words_at blocks a) 0 0) at ∙ word) h.stands.control.throws more
             (subst (λ (o : Option PlaceRecord). PlaceStands program.world (place_in s.frames) o) (sym place)
             (places_stand program addresses s.frames (reverse frames.records.items) (in_use frames.words.items frames.top) 0 h.stands.frames.stand));
@@ -82,18 +82,18 @@ module _ (world : World) (class : ℕ) (program : Program) (texts : List (List �
     (h : Moves world (Raising class) program texts s t addresses (kept frames control held blocks)) (words : ℕ)
     (size : HoldsAtNumber program.world class (λ l. words ≡ object_words program.world l)) (few : class < 2147483648) (after : Held) (blocks_after : Blocks) (made : Option ℕ)
     (same : after ≡ record held { cells = after.cells }) (is_made : IsMade class words held.cells after.cells blocks blocks_after made) where
-  pub parts : (th : ThrownOfNames) × ((exception program.world h.does.name s.memory >>= thrown s.frames s.control) ≡ Ok th) × (unwound program.world th s.frames ≡ Ok t)
-  parts = bound_gave (exception program.world h.does.name s.memory >>= thrown s.frames s.control) (λ (th : ThrownOfNames). unwound program.world th s.frames) t h.does.does
+  pub parts : (th : ThrownOfNames) × ((exception program.world h.does.name s.memory >>= thrown (place_in s.frames) s.control) ≡ Ok th) × (unwound program.world th s.frames ≡ Ok t)
+  parts = bound_gave (exception program.world h.does.name s.memory >>= thrown (place_in s.frames) s.control) (λ (th : ThrownOfNames). unwound program.world th s.frames) t h.does.does
 
-  pub new : NewThrown program.world h.does.name s.frames s.control s.memory parts.0
-  new = new_thrown program.world h.does.name s.frames s.control s.memory parts.0 parts.1
+  pub new : NewThrown program.world h.does.name (place_in s.frames) s.control s.memory parts.0
+  new = new_thrown program.world h.does.name (place_in s.frames) s.control s.memory parts.0 parts.1
 
   abbrev made_now : Memory × ℕ
   made_now = exception_made program.world new.l s.memory (paid (object_cells program.world new.l) s.memory)
 
   pub stands : ExceptionStands program.world texts made_now addresses (unwrap_or made held.out_of_memory) blocks after blocks_after
   stands =
-      exception_stands program texts h.does.name s.frames s.control s.memory parts.0 addresses held after blocks blocks_after class words made new
+      exception_stands program texts h.does.name (place_in s.frames) s.control s.memory parts.0 addresses held after blocks blocks_after class words made new
       h.stands.memory h.does.has_number size few same is_made
 
   abbrev between : State

@@ -1,6 +1,6 @@
 -- A throw that goes up the frames, one by one (JVMS 2.10).
 use Rattle.std.proofs.Common.{◌≡◌, ℕ, suc, ◌+◌, ◌-◌, ◌<◌, List, [], ◌∷◌, ◌++◌, Option, Some, None, Ok, drop, get_or, length, reverse, slice_get, take, refl, sym, ap, subst, ◌∙◌, arith, append_assoc, append-nil}
-use Rattle.std.specs.Option.{option_map}
+use Rattle.std.specs.Option.{option_map, option_or}
 use Rattle.std.proofs.lemmas.List.{get_or-reverse, length-reverse}
 use Rattle.std.proofs.lemmas.Option.{slice_get-get_or, slice_get_within}
 use Rattle.jv_format.specs.declared.handlers.Handler.{Handler}
@@ -9,7 +9,7 @@ use Rattle.jv_meaning_world.specs.World.{World}
 use Rattle.jv_meaning_machine.specs.Frames.{MethodFrame, Frame}
 use Rattle.jv_meaning_machine.specs.Frames.Frame.{Runs, Initializes}
 use Rattle.jv_meaning_machine.specs.State.{Program, Control, State}
-use Rattle.jv_meaning_machine.specs.Throws.{Thrown, handler_for, caught, passed_method, passed_initialization, place_in, replacement, unwound}
+use Rattle.jv_meaning_machine.specs.Throws.{Thrown, handler_for, caught, passed_method, passed_initialization, replacement_place, replacement, unwound}
 use Rattle.jv_interp_words.specs.declared.records.MethodRecord.{MethodRecord}
 use Rattle.jv_interp_words.specs.declared.records.InitializationRecord.{InitializationRecord}
 use Rattle.jv_interp_words.specs.declared.records.FrameRecord.{FrameRecord}
@@ -25,7 +25,7 @@ use Rattle.jv_interp_control.specs.Inside.Passing.{passed, all_passed}
 use Rattle.jv_interp_control.specs.Inside.Walking.{with_throws, ThrownStands, Replacing, Replaced, Walking, Walked, Landed}
 use Rattle.jv_interp_control.proofs.GrownTwice.{grows_twice}
 use Rattle.jv_interp_control.proofs.MemoryJoined.{grows_not}
-use Rattle.jv_interp_control.proofs.PlacesStand.{places_stand}
+use Rattle.jv_interp_control.proofs.PlacesStand.{places_stand_or}
 use Rattle.jv_interp_control.proofs.Stacked.{MethodAt, InitializationAt, method_at, initialization_at, same_count}
 
 -- the record that is looked at
@@ -142,8 +142,9 @@ module _ (world : World) (all : List FrameRecord) (program : Program) (texts : L
               place = w.stands.place;
               memory = w.stands.memory;
             };
-            place = subst (λ (n : ℕ). PlaceStands program.world (place_in (drop (suc k) frames)) (record_place (drop n (reverse all)))) (sym (one_more k))
-                (places_stand program addresses frames (reverse all) used (suc k) h.frames_stand);
+            place = subst
+                (λ (n : ℕ). PlaceStands program.world (replacement_place (drop (suc k) frames) w.now.control) (option_or (record_place (drop n (reverse all))) now.place))
+                (sym (one_more k)) (places_stand_or program addresses frames (reverse all) used (suc k) w.now.control.place now.place h.frames_stand w.stands.place);
             goes = parts.1;
           };
           goes = parts.2;

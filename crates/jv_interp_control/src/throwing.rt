@@ -78,7 +78,7 @@ pub(crate) fn replaced<S: Store>(
     }
     let words = linked.object_words(IN_INITIALIZER as usize);
     let throws = once_more(thrown.throws);
-    let place = place_behind(records, passed);
+    let place = place_behind(records, passed).or(thrown.place);
     let Some(address) = make_exception(held, store, IN_INITIALIZER, words)? else {
         let address = held.out_of_memory;
         let class = store.get(address, 0);

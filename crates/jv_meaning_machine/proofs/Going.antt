@@ -17,7 +17,7 @@ use Rattle.jv_meaning_machine.specs.Objects.{Instance, key_of, is_at_or_below}
 use Rattle.jv_meaning_machine.specs.Frames.{MethodFrame, InitializationFrame, Task, Frame}
 use Rattle.jv_meaning_machine.specs.Frames.Frame.{Runs, Initializes}
 use Rattle.jv_meaning_machine.specs.Frames.Task.{SetsField, InitializesFirst, RunsInitializer}
-use Rattle.jv_meaning_machine.specs.State.{Program, Memory, Control, State, End, state_of, with_state, ClassState, ClassStates, class_state}
+use Rattle.jv_meaning_machine.specs.State.{Program, Memory, ThrowPlace, Control, State, End, state_of, with_state, ClassState, ClassStates, class_state}
 use Rattle.jv_meaning_machine.specs.State.ClassState.{Untouched, Begun, Initialized, Erroneous}
 use Rattle.jv_meaning_machine.specs.State.End.{Running, Returned, Threw, NoMain}
 use Rattle.jv_meaning_machine.specs.Costs.{code_words, method_words, initialization_words, with_words_back}
@@ -26,7 +26,7 @@ use Rattle.jv_meaning_machine.specs.Effects.Effect.{Goes, Enters, Constructs, Le
 use Rattle.jv_meaning_machine.specs.Fields.{described, with_static, with_object}
 use Rattle.jv_meaning_machine.specs.Instructions.{execute}
 use Rattle.jv_meaning_machine.specs.Literals.{constant_value}
-use Rattle.jv_meaning_machine.specs.Throws.{exception, Thrown, place_in, thrown_once_more, thrown, handler_for, at_handler, caught, replacement_if, replacement, passed_initialization, passed_method, unwound, throw, raise}
+use Rattle.jv_meaning_machine.specs.Throws.{exception, Thrown, place_in, replacement_place, thrown_once_more, thrown, handler_for, at_handler, caught, replacement_if, replacement, passed_initialization, passed_method, unwound, throw, raise}
 use Rattle.jv_meaning_machine.specs.Entering.{within_words, method_frame, entered_above, enter, entered_on, enter_init, at_offset, resumed, leave_to}
 use Rattle.jv_meaning_machine.specs.Initialization.{begin, initialization_of, is_verified, main_arguments, tasks_left, finish, finished, set_field, do_task, with_tasks, do_first}
 use Rattle.jv_meaning_machine.specs.Step.{waiting, act, context, step_in, step}
@@ -97,11 +97,11 @@ module _ (G : ClassStates → ℕ → List Frame → Type 0) (kept : IsKept G) w
   Passing frames t = Going t.control frames
 
   thrown_goes :
-      (control : Control) (frames : List Frame) (made : Memory × ℕ) → Going control frames
-      → Leads Thrown (Passing frames) (thrown frames control made)
-  thrown_goes control frames made h =
+      (place : Option ThrowPlace) (control : Control) (frames : List Frame) (made : Memory × ℕ) → Going control frames
+      → Leads Thrown (Passing frames) (thrown place control made)
+  thrown_goes place control frames made h =
       let known : (object : ℕ) (class : List ℕ)
-      → Passing frames (record { object = object; class = class; memory = made.0; control = thrown_once_more class (place_in frames) control }) =
+      → Passing frames (record { object = object; class = class; memory = made.0; control = thrown_once_more class place control }) =
       λ object class. record { running = h.running; holds = kept.throws control.states control.throws frames h.holds } in
       search (bound, leaf, known)
 
@@ -119,8 +119,8 @@ module _ (G : ClassStates → ℕ → List Frame → Type 0) (kept : IsKept G) w
       → Leads Thrown (Passing frames) (replacement_if world t frames error)
   replaced_if_goes world t frames true h = leaf (Passing frames) t h
   replaced_if_goes world t frames false h =
-      bound (exception world (codes "java/lang/ExceptionInInitializerError") t.memory) (thrown frames t.control)
-      (λ made e. thrown_goes t.control frames made h)
+      bound (exception world (codes "java/lang/ExceptionInInitializerError") t.memory) (thrown (replacement_place frames t.control) t.control)
+      (λ made e. thrown_goes (replacement_place frames t.control) t.control frames made h)
 
   replaced_goes :
       (world : World) (t : Thrown) (frames : List Frame) → Passing frames t → Leads Thrown (Passing frames) (replacement world t frames)
@@ -158,15 +158,15 @@ module _ (G : ClassStates → ℕ → List Frame → Type 0) (kept : IsKept G) w
       (world : World) (memory : Memory) (frames : List Frame) (control : Control) (object : ℕ) → Going control frames
       → Leads State Went (throw world memory frames control object)
   throw_goes world memory frames control object h =
-      chained (Passing frames) Went (thrown frames control (memory, object)) (λ t. unwound world t frames)
-      (thrown_goes control frames (memory, object) h) (λ t k. unwound_goes world frames t k)
+      chained (Passing frames) Went (thrown (place_in frames) control (memory, object)) (λ t. unwound world t frames)
+      (thrown_goes (place_in frames) control frames (memory, object) h) (λ t k. unwound_goes world frames t k)
 
   raise_goes :
       (world : World) (memory : Memory) (frames : List Frame) (control : Control) (name : List ℕ) → Going control frames
       → Leads State Went (raise world memory frames control name)
   raise_goes world memory frames control name h =
-      chained (Passing frames) Went (exception world name memory >>= thrown frames control) (λ t. unwound world t frames)
-      (bound (exception world name memory) (thrown frames control) (λ made e. thrown_goes control frames made h))
+      chained (Passing frames) Went (exception world name memory >>= thrown (place_in frames) control) (λ t. unwound world t frames)
+      (bound (exception world name memory) (thrown (place_in frames) control) (λ made e. thrown_goes (place_in frames) control frames made h))
       (λ t k. unwound_goes world frames t k)
 
   -- ---- words that are given

@@ -23,14 +23,14 @@ use Rattle.jv_meaning_machine.specs.Objects.Object.{InstanceOf}
 use Rattle.jv_meaning_machine.specs.Frames.{local_words, filled, MethodFrame, InitializationFrame, Task, Frame}
 use Rattle.jv_meaning_machine.specs.Frames.Frame.{Runs, Initializes}
 use Rattle.jv_meaning_machine.specs.Frames.Task.{SetsField, InitializesFirst, RunsInitializer}
-use Rattle.jv_meaning_machine.specs.State.{Program, is_class_accepted, entered_method, Memory, Control, State, state_of, with_state, ClassState, class_state}
+use Rattle.jv_meaning_machine.specs.State.{Program, is_class_accepted, entered_method, Memory, ThrowPlace, Control, State, state_of, with_state, ClassState, class_state}
 use Rattle.jv_meaning_machine.specs.State.ClassState.{Untouched, Begun, Initialized, Erroneous}
 use Rattle.jv_meaning_machine.specs.State.End.{Threw, Returned}
 use Rattle.jv_meaning_machine.specs.Costs.{paid, code_words, method_words, initialization_words, with_words_back}
 use Rattle.jv_meaning_machine.specs.Effects.{out_of_memory}
 use Rattle.jv_meaning_machine.specs.Fields.{described, with_object}
 use Rattle.jv_meaning_machine.specs.Literals.{constant_value}
-use Rattle.jv_meaning_machine.specs.Throws.{exception_made, exception, Thrown, place_in, thrown_once_more, thrown, handler_for, caught, replacement_if, replacement, passed_initialization, passed_method, unwound, throw, raise}
+use Rattle.jv_meaning_machine.specs.Throws.{exception_made, exception, Thrown, place_in, replacement_place, thrown_once_more, thrown, handler_for, caught, replacement_if, replacement, passed_initialization, passed_method, unwound, throw, raise}
 use Rattle.jv_meaning_machine.specs.Entering.{within_words, passed_values, method_frame, entered_above, enter, entered_on, enter_init, at_offset, resumed, leave_to, leave}
 use Rattle.jv_meaning_machine.specs.Initialization.{begin, initialization_of, is_verified, main_arguments, tasks_left, finish, finished, set_field, do_task, with_tasks, do_first, initialization_step}
 use Rattle.jv_meaning_machine.specs.Laws.Shapes.{frame_words}
@@ -126,11 +126,11 @@ module _ (program : Program) (from : Memory) (all_words : ℕ) (main : List ℕ)
     pub words : HasWords t.control frames
 
   thrown_stays :
-      (control : Control) (frames : List Frame) (made : Memory × ℕ) → KeepsFrom made.0 → HasWords control frames
-      → Leads Thrown (ThrownFrom frames) (thrown frames control made)
-  thrown_stays control frames made h w =
+      (place : Option ThrowPlace) (control : Control) (frames : List Frame) (made : Memory × ℕ) → KeepsFrom made.0 → HasWords control frames
+      → Leads Thrown (ThrownFrom frames) (thrown place control made)
+  thrown_stays place control frames made h w =
       let known : (object : ℕ) (class : List ℕ)
-      → ThrownFrom frames (record { object = object; class = class; memory = made.0; control = thrown_once_more class (place_in frames) control }) =
+      → ThrownFrom frames (record { object = object; class = class; memory = made.0; control = thrown_once_more class place control }) =
       λ object class. record { memory = h; words = record { sum = w.sum; same_main = w.same_main } } in
       search (bound, leaf, known)
 
@@ -164,9 +164,9 @@ module _ (program : Program) (from : Memory) (all_words : ℕ) (main : List ℕ)
   replaced_if_stays t frames true h = leaf (ThrownFrom frames) t h
   replaced_if_stays t frames false h =
       chained HasMemory (ThrownFrom frames) (exception program.world (codes "java/lang/ExceptionInInitializerError") t.memory)
-      (thrown frames t.control)
+      (thrown (replacement_place frames t.control) t.control)
       (exception_stays (codes "java/lang/ExceptionInInitializerError") t.memory h.memory)
-      (λ made k. thrown_stays t.control frames made k h.words)
+      (λ made k. thrown_stays (replacement_place frames t.control) t.control frames made k h.words)
 
   replaced_stays :
       (t : Thrown) (frames : List Frame) → ThrownFrom frames t → Leads Thrown (ThrownFrom frames) (replacement program.world t frames)
@@ -197,16 +197,16 @@ module _ (program : Program) (from : Memory) (all_words : ℕ) (main : List ℕ)
       (memory : Memory) (frames : List Frame) (control : Control) (object : ℕ) → KeepsFrom memory → HasWords control frames
       → Leads State Stays (throw program.world memory frames control object)
   throw_stays memory frames control object h w =
-      chained (ThrownFrom frames) Stays (thrown frames control (memory, object)) (λ t. unwound program.world t frames)
-      (thrown_stays control frames (memory, object) h w) (λ t k. unwound_stays frames t k)
+      chained (ThrownFrom frames) Stays (thrown (place_in frames) control (memory, object)) (λ t. unwound program.world t frames)
+      (thrown_stays (place_in frames) control frames (memory, object) h w) (λ t k. unwound_stays frames t k)
 
   pub raise_stays :
       (memory : Memory) (frames : List Frame) (control : Control) (name : List ℕ) → KeepsFrom memory → HasWords control frames
       → Leads State Stays (raise program.world memory frames control name)
   raise_stays memory frames control name h w =
-      chained (ThrownFrom frames) Stays (exception program.world name memory >>= thrown frames control) (λ t. unwound program.world t frames)
-      (chained HasMemory (ThrownFrom frames) (exception program.world name memory) (thrown frames control) (exception_stays name memory h)
-      (λ made k. thrown_stays control frames made k w))
+      chained (ThrownFrom frames) Stays (exception program.world name memory >>= thrown (place_in frames) control) (λ t. unwound program.world t frames)
+      (chained HasMemory (ThrownFrom frames) (exception program.world name memory) (thrown (place_in frames) control) (exception_stays name memory h)
+      (λ made k. thrown_stays (place_in frames) control frames made k w))
       (λ t k. unwound_stays frames t k)
 
   -- ---- words that are given

@@ -2,6 +2,7 @@
 -- used (5.5).
 use Rattle.std.specs.Prelude.{ℕ, ◌+◌, ◌-◌, ◌^◌, min, Bool, true, false, ◌&&◌, ◌==◌, nat_le, List, [], ◌∷◌, Option, Some, None, Ok, codes, if◌then◌else◌}
 use Rattle.std.specs.List.{find}
+use Rattle.std.specs.Option.{option_or}
 use Rattle.jv_format.specs.declared.handlers.Handler.{Handler}
 use Rattle.jv_pool.specs.Constants.{Entry, class_name_at}
 use Rattle.jv_meaning_world.specs.World.{Loaded, World, class_named}
@@ -43,7 +44,7 @@ pub record Thrown : Type 0 where
   pub control : Control
 
 -- it is thrown at the instruction of the first of these frames that is a method's (own): an initialization is begun by the instruction
--- below it, and main's by none
+-- below it, and that of main's class by none
 abbrev pub place_in : List Frame → Option ThrowPlace
 place_in [] = None
 place_in (Runs frame ∷ below) = Some (record {
@@ -54,19 +55,23 @@ place_in (Runs frame ∷ below) = Some (record {
 })
 place_in (Initializes frame ∷ below) = place_in below
 
+-- what is thrown in place of another, where no frame below is a method's, is thrown where that one was (own)
+abbrev pub replacement_place : List Frame → Control → Option ThrowPlace
+replacement_place below control = option_or (place_in below) control.place
+
 -- a throw more; their number stays at 2^64 - 1
 abbrev pub thrown_once_more : List ℕ → Option ThrowPlace → Control → Control
 thrown_once_more class place control =
     record control { throws = min (control.throws + 1) (2 ^ 64 - 1); last = Some class; place = place }
 
-abbrev pub thrown : List Frame → Control → Memory × ℕ → OrFault Thrown
-thrown frames control made =
+abbrev pub thrown : Option ThrowPlace → Control → Memory × ℕ → OrFault Thrown
+thrown place control made =
     object_at made.0.objects made.1 >>= instance_in >>= λ instance.
     Ok (record {
       object = made.1;
       class = instance.class;
       memory = made.0;
-      control = thrown_once_more instance.class (place_in frames) control;
+      control = thrown_once_more instance.class place control;
     })
 
 abbrev pub with_control : Thrown → Control → Thrown
@@ -103,7 +108,7 @@ caught t frame below handler =
 abbrev pub replacement_if : World → Thrown → List Frame → Bool → OrFault Thrown
 replacement_if world t below true = Ok t
 replacement_if world t below false =
-    exception world (codes "java/lang/ExceptionInInitializerError") t.memory >>= thrown below t.control
+    exception world (codes "java/lang/ExceptionInInitializerError") t.memory >>= thrown (replacement_place below t.control) t.control
 
 abbrev pub replacement : World → Thrown → List Frame → OrFault Thrown
 replacement world t below = replacement_if world t below (is_at_or_below world t.class (codes "java/lang/Error"))
@@ -128,7 +133,8 @@ unwound world t (Initializes frame ∷ below) =
 
 -- an object is thrown in the first of these frames; and so is an exception of a class that the machine makes
 abbrev pub throw : World → Memory → List Frame → Control → ℕ → OrFault State
-throw world memory frames control object = thrown frames control (memory, object) >>= λ t. unwound world t frames
+throw world memory frames control object =
+    thrown (place_in frames) control (memory, object) >>= λ t. unwound world t frames
 
 abbrev pub raise : World → Memory → List Frame → Control → List ℕ → OrFault State
-raise world memory frames control name = exception world name memory >>= thrown frames control >>= λ t. unwound world t frames
+raise world memory frames control name = exception world name memory >>= thrown (place_in frames) control >>= λ t. unwound world t frames

@@ -18,11 +18,11 @@ use Rattle.jv_meaning_machine.specs.Objects.{Object}
 use Rattle.jv_meaning_machine.specs.Objects.Object.{InstanceOf, ArrayWith}
 use Rattle.jv_meaning_machine.specs.Frames.{Frame}
 use Rattle.jv_meaning_machine.specs.Frames.Frame.{Runs, Initializes}
-use Rattle.jv_meaning_machine.specs.State.{Program, Memory, Control, State, state_of, with_state, ClassState, ClassStates, class_state, state_named, is_ready}
+use Rattle.jv_meaning_machine.specs.State.{Program, Memory, ThrowPlace, Control, State, state_of, with_state, ClassState, ClassStates, class_state, state_named, is_ready}
 use Rattle.jv_meaning_machine.specs.State.ClassState.{Untouched, Begun, Initialized, Erroneous}
 use Rattle.jv_meaning_machine.specs.Costs.{given_words, initialization_words}
 use Rattle.jv_meaning_machine.specs.Fields.{instance_in}
-use Rattle.jv_meaning_machine.specs.Throws.{Thrown, exception, thrown, unwound, throw, raise}
+use Rattle.jv_meaning_machine.specs.Throws.{Thrown, exception, place_in, thrown, unwound, throw, raise}
 use Rattle.jv_meaning_machine.specs.Entering.{within_words}
 use Rattle.jv_meaning_machine.specs.Initialization.{is_verified, initialization_of, tasks_of, begin}
 use Rattle.jv_meaning_machine.proofs.Began.{begun_if, begun_in}
@@ -67,11 +67,11 @@ module _ (program : Program) (rooted : IsRooted program.world) (next_starts : Ne
     → AllByRecursion (IsTask program) (tasks_of program.world l)) where
   -- what is thrown is an instance
   thrown_ok :
-      (a : Heap) (memory : Memory) (frames : List Frame) (control : Control) (id : ℕ) → a.objects ≡ memory.objects
+      (a : Heap) (memory : Memory) (place : Option ThrowPlace) (control : Control) (id : ℕ) → a.objects ≡ memory.objects
       → IsTypedMemory program memory → AreVerified program control.states → IsObject program.world a.objects throwable_type id
       → Holds (λ t. IsThrownGood program rooted next_starts stands_in_list a t
-      × (t.control.main ≡ control.main)) (thrown frames control (memory, id))
-  thrown_ok a memory frames control id is typed verified h =
+      × (t.control.main ≡ control.main)) (thrown place control (memory, id))
+  thrown_ok a memory place control id is typed verified h =
       let at : slice_get memory.objects id ≡ Some h.object = subst (λ (os : List Object). slice_get os id ≡ Some h.object) is h.there in
       then_holds (then_holds (found_holds {P = λ o. o ≡ h.object} ReferenceFault (slice_get memory.objects id) h.object at refl) (λ o e.
       subst (λ (x : Object). Holds (λ i. h.object ≡ InstanceOf i) (instance_in x)) (sym e) (by_object h.object h.below))) (λ i e.
@@ -106,7 +106,7 @@ module _ (program : Program) (rooted : IsRooted program.world) (next_starts : Ne
       → AreCatching program rooted next_starts stands_in_list a frames → IsObject program.world a.objects throwable_type id
       → Holds (IsGood program) (throw program.world memory frames control id)
   throw_ok a memory frames control id is typed verified main c h =
-      then_holds (thrown_ok a memory frames control id is typed verified h) (λ t k.
+      then_holds (thrown_ok a memory (place_in frames) control id is typed verified h) (λ t k.
       unwound_ok a t frames k.0 (subst (λ (n : List ℕ). HasMain program n frames) (sym k.1) main) c (loadable_of a memory is typed))
 
   all_catching_later : {a b : Heap} (fs : List Frame) → IsLater (length fs) a b → AreCatching program rooted next_starts stands_in_list a fs
@@ -139,7 +139,7 @@ module _ (program : Program) (rooted : IsRooted program.world) (next_starts : Ne
       → Holds (IsGood program) (raise program.world memory frames control name)
   raise_ok a memory frames control name is typed verified main c h =
       then_holds (then_holds {Q = IsRaised a control} (exception_ok a memory name is typed h) (λ made k.
-      also made k (thrown frames control made) (thrown_ok k.heap made.0 frames control made.1 k.is k.typed verified k.throwable))) (λ t k.
+      also made k (thrown (place_in frames) control made) (thrown_ok k.heap made.0 (place_in frames) control made.1 k.is k.typed verified k.throwable))) (λ t k.
       unwound_ok k.heap t frames k.fine (subst (λ (n : List ℕ). HasMain program n frames) (sym k.main) main)
       (all_catching_later frames (k.grows (length frames)) c) k.loadable)
     where

@@ -2,7 +2,7 @@
 -- catches is of its type.
 use Rattle.jv_sound.proofs.Unwinding.{loadable_of}
 use Rattle.jv_meaning_world.specs.Laws.Order.{is_loadable_type}
-use Rattle.std.proofs.Common.{◌≡◌, ℕ, Bool, true, false, List, Some, Ok, Err, refl, sym, subst}
+use Rattle.std.proofs.Common.{◌≡◌, ℕ, Bool, true, false, List, Option, Some, Ok, Err, refl, sym, subst}
 use Rattle.std.specs.Prelude.{IsTrue, slice_get, codes}
 use Rattle.std.specs.List.{Contains}
 use Rattle.jv_format.specs.declared.handlers.Handler.{Handler}
@@ -21,9 +21,9 @@ use Rattle.jv_meaning_machine.specs.Values.Value.{Reference}
 use Rattle.jv_meaning_machine.specs.Objects.{Object, is_at_or_below}
 use Rattle.jv_meaning_machine.specs.Objects.Object.{InstanceOf, ArrayWith}
 use Rattle.jv_meaning_machine.specs.Frames.{MethodFrame, Frame}
-use Rattle.jv_meaning_machine.specs.State.{Program, Memory, Control}
+use Rattle.jv_meaning_machine.specs.State.{Program, Memory, ThrowPlace, Control}
 use Rattle.jv_meaning_machine.specs.Fields.{instance_in}
-use Rattle.jv_meaning_machine.specs.Throws.{Thrown, thrown, catches, replacement, replacement_if, unwound}
+use Rattle.jv_meaning_machine.specs.Throws.{Thrown, replacement_place, thrown, catches, replacement, replacement_if, unwound}
 use Rattle.jv_sound.specs.Values.{Heap, Place, IsObject, Item, object_type}
 use Rattle.jv_sound.specs.Memory.{IsTypedMemory, AreLoadable}
 use Rattle.jv_sound.specs.Later.{IsLater}
@@ -41,10 +41,10 @@ module _ (program : Program) (sound : IsSound program) (next_starts : NextStarts
   IsFine a t = IsThrownGood program sound.rooted next_starts stands_in_list a t
 
   thrown_good :
-      (a : Heap) (memory : Memory) (frames : List Frame) (control : Control) (id : ℕ) → a.objects ≡ memory.objects → IsTypedMemory program memory
+      (a : Heap) (memory : Memory) (place : Option ThrowPlace) (control : Control) (id : ℕ) → a.objects ≡ memory.objects → IsTypedMemory program memory
       → AreVerified program control.states → IsObject program.world a.objects throwable_type id
-      → Holds (λ t. IsFine a t × (t.control.main ≡ control.main)) (thrown frames control (memory, id))
-  thrown_good a memory frames control id is typed verified h =
+      → Holds (λ t. IsFine a t × (t.control.main ≡ control.main)) (thrown place control (memory, id))
+  thrown_good a memory place control id is typed verified h =
       let at : slice_get memory.objects id ≡ Some h.object = subst (λ (os : List Object). slice_get os id ≡ Some h.object) is h.there in
       then_holds (then_holds (found_holds {P = λ o. o ≡ h.object} ReferenceFault (slice_get memory.objects id) h.object at refl) (λ o e.
       subst (λ (x : Object). Holds (λ i. h.object ≡ InstanceOf i) (instance_in x)) (sym e) (by_object h.object h.below))) (λ i e.
@@ -92,7 +92,7 @@ module _ (program : Program) (sound : IsSound program) (next_starts : NextStarts
           then_holds (exception_ok program (makeable program sound) (out_of_memory_is_thrown program sound) heap t.memory
           (codes "java/lang/ExceptionInInitializerError") ok.is ok.memory
           (raised program sound (codes "java/lang/ExceptionInInitializerError") refl)) (λ made k.
-          also made k (thrown below t.control made) (thrown_good k.heap made.0 below t.control made.1 k.is k.typed ok.verified k.throwable))
+          also made k (thrown (replacement_place below t.control) t.control made) (thrown_good k.heap made.0 (replacement_place below t.control) t.control made.1 k.is k.typed ok.verified k.throwable))
 
   pub unwinding_ok :
       ((heap : Heap) (t : Thrown) (f : MethodFrame) (checked : IsChecked program f.method) (h : Handler) (type : FrameType) → IsFine heap t

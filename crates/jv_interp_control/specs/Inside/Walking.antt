@@ -1,12 +1,13 @@
 -- A throw that goes up the frames (JVMS 2.10): what is thrown, and how far it has come.
 use Rattle.std.specs.Prelude.{◌≡◌, ℕ, ◌+◌, ◌≤◌, true, false, List, [], ◌∷◌}
 use Rattle.std.specs.Prelude.{◌++◌, Option, Some, None, Ok, drop, length, reverse, slice_get, take}
+use Rattle.std.specs.Option.{option_or}
 use Rattle.jv_format.specs.declared.handlers.Handler.{Handler}
 use Rattle.jv_meaning_world.specs.World.{World}
 use Rattle.jv_meaning_machine.specs.Frames.{MethodFrame, Frame}
 use Rattle.jv_meaning_machine.specs.Frames.Frame.{Runs}
 use Rattle.jv_meaning_machine.specs.State.{Program, Control as ControlOfNames, State}
-use Rattle.jv_meaning_machine.specs.Throws.{Thrown as ThrownOfNames, handler_for, place_in, replacement, unwound}
+use Rattle.jv_meaning_machine.specs.Throws.{Thrown as ThrownOfNames, handler_for, replacement_place, replacement, unwound}
 use Rattle.jv_interp_words.specs.declared.records.FrameRecord.{FrameRecord}
 use Rattle.jv_interp_words.specs.FramesInWords.{AreFrames}
 use Rattle.jv_interp_heap.specs.ObjectsInBlocks.{Blocks, HasNumber}
@@ -48,7 +49,8 @@ pub record Replacing (world : World) (records : List FrameRecord) (passed : ℕ)
   pub world_is : program.world ≡ world
   pub guests : IsGuestsWorld program.world
   pub stands : ThrownStands program texts t addresses thrown held blocks
-  pub place : PlaceStands program.world (place_in below) (record_place (drop passed (reverse records)))
+  pub place :
+      PlaceStands program.world (replacement_place below t.control) (option_or (record_place (drop passed (reverse records))) thrown.place)
   pub goes : replacement program.world t below ≡ Ok behind
 
 pub record CanReplace (world : World) (records : List FrameRecord) (passed : ℕ) (thrown : Thrown) (held : Held) (blocks : Blocks)

@@ -255,13 +255,17 @@ pub record PlaceRows : Type 0 where
   -- a throw in a handler is a later one
   pub again :
       place_after (program_of (only_main [] 2 (handler 0 3 5 0 ∷ []) throws_again ∷ []) (throws_again ∷ [])) 5 ≡ in_main 5
-  -- in the initialization of E, which main's first instruction began; and what is thrown in its place is thrown there
-  pub initializer :
-      place_after (with_E_and_D 1 [] (uses 50)) 6 ≡ in_main 0
+  -- what is thrown in place of what left the initialization of E is thrown where that was begun, by main's first instruction; and so
+  -- it is of D's, which began that of E
+  pub initializer : place_after (with_E_and_D 1 [] (uses 50)) 6 ≡ in_main 0
+  pub superclass : place_after (with_E_and_D 1 [] (uses 67)) 7 ≡ in_main 0
+  -- an Error is not replaced: it was thrown in E's initialization
+  pub error : place_after with_error 14 ≡ at (codes "E") (codes "<clinit>") (codes "()V") 7
   -- an erroneous class is asked for once more, at 6
   pub erroneous : place_after (with_E_and_D 1 (handler 0 3 5 0 ∷ []) (uses_both 67 50)) 9 ≡ in_main 6
-  -- no instruction began main's own initialization, nor called main
-  pub main_class : place_after main_fails 4 ≡ Ok None
+  -- no instruction began the initialization of main's class: what is thrown in place of the division's throw is thrown there
+  pub main_class : place_after main_fails 4 ≡ at main_name (codes "<clinit>") (codes "()V") 2
+  -- none calls main
   pub no_words : place_after (program_of (only_main [] 60 [] (return ∷ []) ∷ []) ((return ∷ []) ∷ [])) 1 ≡ Ok None
 
 -- ---- construction: S is below P

@@ -1,10 +1,12 @@
 use Rattle.std.proofs.Common.{◌≡◌, ℕ, ◌<◌, true, false, Option, Some, None, length, refl, sym, ap, subst, ◌∙◌}
+use Rattle.std.specs.Option.{option_or}
 use Rattle.jv_store.specs.Content.{words_at}
 use Rattle.jv_meaning_world.specs.World.{World}
 use Rattle.jv_meaning_world.specs.Numbers.{HoldsAtBoth}
 use Rattle.jv_meaning_machine.specs.Objects.{is_at_or_below}
 use Rattle.jv_interp_held.specs.declared.held.Held.{Held}
 use Rattle.jv_link_cache.specs.Linked.{IsLinked}
+use Rattle.jv_interp_control.specs.declared.control.PlaceRecord.{PlaceRecord}
 use Rattle.jv_interp_control.specs.Exceptions.{IsMade}
 use Rattle.jv_interp_control.proofs.Replacements.{class_within, error_within, is_test, known_error, stays, replaced_by, word_there, new_word}
 use Rattle.jv_interp_control.proofs.throwing.replaced.Goals as goal
@@ -73,8 +75,9 @@ returns-in_default-clause-replaced g c = λ program texts t below behind address
     c.in_default.is (c.in_ok-address.ensures {u = tt}).made in
     replaced_by world c.args.records.now c.args.passed program texts t below behind addresses c.args.thrown c.args.held.now before h
     c.system_has_numbers.ensures c.make_exception.new.held after c.object_words-words.result None
-    (record { address = c.make_exception.new.held.out_of_memory; class = c.get-class.result; throws = c.once_more-throws.result; place = c.place_behind-place.result; made = false }) no_error size
-    c.make_exception.ensures.held is_made (ap (λ (h : Held). h.out_of_memory) c.make_exception.ensures.held) (sym c.get-class.ensures) c.once_more-throws.ensures c.place_behind-place.ensures
+    (record { address = c.make_exception.new.held.out_of_memory; class = c.get-class.result; throws = c.once_more-throws.result; place = c.or-place.result; made = false }) no_error size
+    c.make_exception.ensures.held is_made (ap (λ (h : Held). h.out_of_memory) c.make_exception.ensures.held) (sym c.get-class.ensures) c.once_more-throws.ensures
+    (c.or-place.ensures ∙ ap (λ (o : Option PlaceRecord). option_or o c.args.thrown.place) c.place_behind.ensures)
 
 pub returns-in_default-clause-stays : goal.returns-in_default-clause-stays
 returns-in_default-clause-stays g c =
@@ -107,8 +110,9 @@ returns-clause-replaced g c = λ program texts t below behind addresses h.
     c.in-Some.is (c.in_ok-address.ensures {u = tt}).made in
     replaced_by world c.args.records.now c.args.passed program texts t below behind addresses c.args.thrown c.args.held.now before h
     c.system_has_numbers.ensures c.make_exception.new.held after c.object_words-words.result (Some address)
-    (record { address = address; class = 23; throws = c.once_more-throws.result; place = c.place_behind-place.result; made = true }) no_error size
-    c.make_exception.ensures.held is_made refl (new_word 23 c.object_words-words.result address before after is_made.1) c.once_more-throws.ensures c.place_behind-place.ensures
+    (record { address = address; class = 23; throws = c.once_more-throws.result; place = c.or-place.result; made = true }) no_error size
+    c.make_exception.ensures.held is_made refl (new_word 23 c.object_words-words.result address before after is_made.1) c.once_more-throws.ensures
+    (c.or-place.ensures ∙ ap (λ (o : Option PlaceRecord). option_or o c.args.thrown.place) c.place_behind.ensures)
 
 pub returns-clause-stays : goal.returns-clause-stays
 returns-clause-stays g c = record {
