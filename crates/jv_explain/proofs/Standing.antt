@@ -14,8 +14,8 @@ use Rattle.jv_meaning_typing.proofs.Starts.{instruction_at_is}
 use Rattle.jv_meaning_typing.specs.declared.verdict.VerifyFault.{VerifyFault}
 use Rattle.jv_meaning_world.specs.Verdicts.{declared_by}
 use Rattle.jv_pool.specs.Constants.{Entry}
-use Rattle.jv_explain.specs.Explained.{ShowsInstruction, ShowsPlace}
-use Rattle.jv_explain.specs.Inside.Said.{IsPlaceIn, ShowsFaultIn, StandsAt, is_at_instruction}
+use Rattle.jv_explain.specs.Explained.{ShowsInstruction, ShowsPlace, is_at_instruction}
+use Rattle.jv_explain.specs.Inside.Said.{IsPlaceIn, ShowsFaultIn, StandsAt}
 use Rattle.jv_explain.specs.Text.{place_text}
 
 module _ (stands : StandsInList) (site : Site) (pc : ℕ) where

@@ -1,5 +1,5 @@
 -- What is said of the first rule that a method breaks (JVMS 4.10.1): the method, the instruction, the frames before it and the rule.
-use Rattle.std.specs.Prelude.{◌≡◌, ℕ, false, List, [], ◌++◌, Some, slice_get}
+use Rattle.std.specs.Prelude.{◌≡◌, ℕ, Bool, true, false, List, [], ◌++◌, Some, slice_get}
 use Rattle.jv_class.specs.Class.{Method}
 use Rattle.jv_class_structure.specs.Parts.{CodeSeen}
 use Rattle.jv_code.specs.Insns.{Instruction}
@@ -24,7 +24,14 @@ pub record ShowsInstruction (site : Site) (pc : ℕ) (text : List ℕ) : Type 0 
   pub at : IsAt body.code pc insn
   pub told : text ≡ place_text site.by.class.constant_pool pc insn
 
--- rules on the whole code are broken at no instruction
+-- a rule that is broken at an instruction, and not by the whole code
+abbrev pub is_at_instruction : VerifyRule → Bool
+is_at_instruction rules.Code = false
+is_at_instruction rules.HandlerTable = false
+is_at_instruction rules.MapFrames = false
+is_at_instruction rule = true
+
+-- where it is broken at none, no place is shown
 abbrev pub ShowsPlace : Site → ℕ → VerifyRule → List ℕ → Type 0
 ShowsPlace site pc rules.Code text = text ≡ []
 ShowsPlace site pc rules.HandlerTable text = text ≡ []

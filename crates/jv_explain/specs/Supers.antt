@@ -38,14 +38,14 @@ fault_if fault wrong = if wrong then Some fault else None
 
 -- with the class of its name, where there is one; the verdict is on this class
 abbrev pub fault_of : World → Loaded → LoadVerdict → (as_interface : Bool) → Option Loaded → Option SuperFault
-fault_of world l Circular kind (Some s) = fault_if Below (bytes_eq s.class.name l.class.name || is_above world l.class.name s.class)
-fault_of world l NoSuper kind None = Some Missing
-fault_of world l NoSuper kind (Some s) = fault_if Unloadable (not (is_loadable world s))
+fault_of world l Circular as_interface (Some s) = fault_if Below (bytes_eq s.class.name l.class.name || is_above world l.class.name s.class)
+fault_of world l NoSuper as_interface None = Some Missing
+fault_of world l NoSuper as_interface (Some s) = fault_if Unloadable (not (is_loadable world s))
 fault_of world l WrongKind false (Some s) = fault_if Interface (is_interface s)
 fault_of world l WrongKind true (Some s) = fault_if NoInterface (not (is_interface s))
-fault_of world l NoAccess kind (Some s) = fault_if Closed (not (can_name l s))
-fault_of world l FinalBroken kind (Some s) = fault_if Final (has s.class.access_flags acc_final)
-fault_of world l why kind found = None
+fault_of world l NoAccess as_interface (Some s) = fault_if Closed (not (can_name l s))
+fault_of world l FinalBroken as_interface (Some s) = fault_if Final (has s.class.access_flags acc_final)
+fault_of world l why as_interface found = None
 
 abbrev pub super_fault : World → Loaded → LoadVerdict → Super → Option SuperFault
 super_fault world l why s = fault_of world l why s.as_interface (class_named world s.name)

@@ -2,8 +2,9 @@
 
 ghost use Rattle.std.specs.Prelude.{◌≡◌, ◌++◌, IfOk, string_bytes};
 ghost use Rattle.jv_class_structure.specs.Seen.{seen_method};
+ghost use Rattle.jv_explain.specs.Explained.{is_at_instruction};
 ghost use Rattle.jv_explain.specs.Text.{broken_text};
-ghost use Rattle.jv_explain.specs.Inside.Said.{ExplainsIn, ShowsFaultIn, is_at_instruction, named_text};
+ghost use Rattle.jv_explain.specs.Inside.Said.{ExplainsIn, ShowsFaultIn, named_text};
 
 use crate::place::place_of;
 use crate::text::{ShownFault, ShownMethod};
@@ -13,8 +14,8 @@ use jv_meaning_typing::{VerifyFault, VerifyRule};
 use jv_pool::Pool;
 use std::alloc::{AllocError, Global};
 
-/// Whether a rule is broken at an instruction, and not by the whole code.
-fn is_at_instruction(rule: VerifyRule) -> bool
+/// Whether a rule is broken at an instruction, and not by the whole code (JVMS 4.10.1).
+pub fn is_at_instruction(rule: VerifyRule) -> bool
     ensures { result ≡ is_at_instruction rule }
 {
     !matches!(

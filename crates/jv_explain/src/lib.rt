@@ -8,5 +8,6 @@ mod place;
 mod supers;
 mod text;
 
+pub use fault::is_at_instruction;
 pub use file::explain_file;
 pub use supers::{SuperFault, explain_refusal};

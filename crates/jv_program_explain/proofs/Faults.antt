@@ -1,6 +1,5 @@
 -- The frames where a method breaks a rule.
 use Rattle.std.proofs.Common.{◌≡◌, ℕ, Bool, true, false, List, [], Option, Some, None, refl}
-use Rattle.jv_stackmap.specs.Frames.{Frame}
 use Rattle.jv_meaning_world.specs.FileContent.{FileContent}
 use Rattle.jv_meaning_world.specs.Numbers.{HoldsAtNumber}
 use Rattle.jv_meaning_world.specs.declared.content.Content.TheVariants.{OtherVersion, NoClassFile, MoreThanProfile, Holds}
@@ -15,13 +14,12 @@ use Rattle.jv_meaning_typing.specs.declared.verdict.Verdict.{Verdict}
 use Rattle.jv_meaning_typing.specs.declared.verdict.Verdict.TheVariants.{Accepted, Refused, Verify}
 use Rattle.jv_meaning_typing.specs.Judgement.{BreaksRule, IsFirstFault, IsVerdictOfContent, WithFrames}
 use Rattle.jv_links.specs.Text.{AreLinksTold}
-use Rattle.jv_shown.specs.Instructions.{first_of}
 use Rattle.jv_verify.specs.Before.{IsTypedTo}
 use Rattle.jv_verify.specs.Frames.{IsTypedIn}
 use Rattle.jv_verify.proofs.BrokenThere.{below_end, below_first}
 use Rattle.jv_program_explain.specs.Explain.{IsExplainedBy, IsSaid, IsVerdictTold}
-use Rattle.jv_program_explain.specs.Frames.{AreFramesShown, ShowsFrames, ShowsFramesOf, both_text, frames_text}
-use Rattle.jv_program_explain.specs.Inside.Broken.{is_at_instruction}
+use Rattle.jv_program_explain.specs.Frames.{AreFramesShown, ShowsFrames, ShowsFramesOf}
+use Rattle.jv_explain.specs.Explained.{is_at_instruction}
 use Rattle.jv_program_explain.specs.Inside.Numbered.{StandsAt, tells_links}
 
 -- ---- the instructions below are type safe
@@ -67,17 +65,6 @@ at_none world l fault text rules.CoveredHandler off e = absurd cc
 at_none world l fault text rules.Instruction off e = absurd cc
 at_none world l fault text rules.BranchTarget off e = absurd cc
 at_none world l fault text rules.EndOfCode off e = absurd cc
-
--- of one frame, where the rule is another than that on merging
-pub one_frame : (broken : VerifyRule) (falling map : Option Frame) → (broken ≡ rules.Merge → ⊥) → both_text (first_of map falling) None ≡ frames_text broken falling map
-one_frame rules.Code falling map never = refl
-one_frame rules.HandlerTable falling map never = refl
-one_frame rules.MapFrames falling map never = refl
-one_frame rules.Merge falling map never = absurd (never refl)
-one_frame rules.CoveredHandler falling map never = refl
-one_frame rules.Instruction falling map never = refl
-one_frame rules.BranchTarget falling map never = refl
-one_frame rules.EndOfCode falling map never = refl
 
 -- ---- of a file
 

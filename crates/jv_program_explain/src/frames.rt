@@ -1,22 +1,23 @@
 //! The frames where a method breaks a rule, as text.
 
-ghost use Rattle.std.specs.Prelude.{◌≡◌, IfOk, IsTrue, Option, Some, string_bytes};
+ghost use Rattle.std.specs.Prelude.{◌≡◌, ◌++◌, [], IfOk, IsTrue, Option, Some, string_bytes};
 ghost use Rattle.std.specs.Option.{option_map};
 ghost use Rattle.jv_meaning_typing.specs.Judgement.{IsVerdictOfContent};
 ghost use Rattle.jv_meaning_typing.specs.declared.verdict.Verdict.TheVariants.{Verify};
 ghost use Rattle.jv_meaning_world.specs.FileContent.{FileContent};
 ghost use Rattle.jv_meaning_world.specs.Numbers.{HoldsAtNumber};
 ghost use Rattle.jv_meaning_world.specs.declared.verdict.LoadVerdict.{LoadVerdict};
-ghost use Rattle.jv_program_explain.specs.Frames.{AreFramesShown, ShowsFramesOf, both_text, frames_text, some_text};
+ghost use Rattle.jv_program_explain.specs.Frames.{AreFramesShown, ShowsFramesOf, both_text, frames_text, some_text, unmet_text};
 ghost use Rattle.jv_program_explain.specs.Inside.Numbered.{IsJudgedAt, StandsAt, is_on_methods};
-ghost use Rattle.jv_program_explain.specs.Inside.Broken.{is_at_instruction};
 ghost use Rattle.jv_shown.specs.Instructions.{first_of};
-ghost use Rattle.jv_verify.specs.Before.{seen_frame};
+ghost use Rattle.jv_verify.specs.Before.{seen_frame, seen_unmet};
 
+use crate::unmet::ShownUnmet;
+use jv_explain::is_at_instruction;
 use jv_loader::Classes;
 use jv_meaning_typing::{Verdict, VerifyFault, VerifyRule};
 use jv_shown::ShownFrame;
-use jv_verify::{FramesBefore, NamedFrame, frames_before};
+use jv_verify::{FramesBefore, NamedFrame, NamedUnmet, frames_before};
 use std::alloc::{AllocError, Global};
 use std::fmt;
 use std::hash::RandomState;
@@ -98,31 +99,39 @@ fn first_of<'f, 'a>(
     }
 }
 
-/// The text of the frames before an instruction that breaks a rule.
+/// The text of a frame, and of what goes on, whose frame this is.
+fn onward_told(
+    alloc: Global,
+    frame: Option<&NamedFrame<'_>>,
+    whose: &str,
+    unmet: Option<&NamedUnmet<'_>>,
+) -> Result<String, AllocError>
+    ensures { IfOk result (λ text. string_bytes text ≡ some_text [] (option_map (λ f. seen_frame f.now) frame.entry)
+        ++ unmet_text whose.now (option_map (λ u. seen_unmet u.now) unmet.entry)) }
+{
+    let frame = ShownSome { whose: "", frame };
+    let unmet = ShownUnmet { whose, unmet };
+    format!(in alloc; "{frame}{unmet}")
+}
+
+/// The text of the frames before an instruction that breaks a rule, and of what goes on from it.
 fn frames_told(
     alloc: Global,
     rule: VerifyRule,
     found: &FramesBefore<'_>,
 ) -> Result<String, AllocError>
-    ensures { IfOk result (λ text. string_bytes text
-        ≡ frames_text rule (option_map seen_frame found.now.falling) (option_map seen_frame found.now.map)) }
+    ensures { IfOk result (λ text. string_bytes text ≡ frames_text rule (option_map seen_frame found.now.falling)
+        (option_map seen_frame found.now.map) (option_map seen_unmet found.now.unmet)) }
 {
     let falling = found.falling.as_ref();
     let map = found.map.as_ref();
+    let unmet = found.unmet.as_ref();
     match rule {
         VerifyRule::Merge => both_told(alloc, falling, map),
+        VerifyRule::CoveredHandler => onward_told(alloc, first_of(map, falling), "thrown ", unmet),
+        VerifyRule::BranchTarget => onward_told(alloc, first_of(map, falling), "left ", unmet),
         _ => both_told(alloc, first_of(map, falling), None),
     }
-}
-
-/// Whether a rule is broken at an instruction, and not by the whole code.
-fn is_at_instruction(rule: VerifyRule) -> bool
-    ensures { result ≡ is_at_instruction rule }
-{
-    !matches!(
-        rule,
-        VerifyRule::Code | VerifyRule::HandlerTable | VerifyRule::MapFrames
-    )
 }
 
 /// The text of the frames where a method of the class with a number breaks a rule; nothing where it is broken by the whole code.

@@ -8,6 +8,7 @@ mod named;
 mod numbers;
 mod report;
 mod said;
+mod unmet;
 
 pub use explaining::explain_files;
 pub use named::explain_named;

@@ -16,5 +16,5 @@ mod verified;
 pub use class::check_class;
 pub use frames::frames_before;
 pub use jv_meaning_typing::{Verdict, VerifyFault, VerifyRule};
-pub use jv_verify_pass::{FramesBefore, NamedFrame, NamedType};
+pub use jv_verify_pass::{Difference, FramesBefore, NamedFrame, NamedType, NamedUnmet};
 pub use verified::{Verified, verify, verify_files};

@@ -59,7 +59,7 @@ module _ (pass : Pass) (entries : List Item) (count : ℕ) (kept : IsPass pass e
   flows_there types f map r o e room h at = flow_is types f map r e room h ∙ ap (flows_into env (frame_of (names_in pass) f)) at
 
   -- what a handler begins with against one of the map
-  thrown_is : (insn : Instruction) (f : NumberFrame) (object : Option Item) (thrown : Item)
+  pub thrown_is : (insn : Instruction) (f : NumberFrame) (object : Option Item) (thrown : Item)
       → IsLeft env insn (names_in pass) f object → thrown_frame (names_in pass) f object thrown ≡ with_stack (handler_frame env insn (frame_of (names_in pass) f)) (typed (names_in pass) thrown ∷ [])
   thrown_is insn f object thrown e =
       ap (λ (locals : List FrameType). record { locals = locals; stack = typed (names_in pass) thrown ∷ []; flag_this_uninit = f.flag_this_uninit }) e

@@ -3,11 +3,14 @@ pub mod CaughtTypes
 pub mod Changing
 pub mod CodeFound
 pub mod Constructing
+pub mod Differing
 pub mod EntriesMade
+pub mod FirstFound
 pub mod FlowingStacks
 pub mod FlowsInto
 pub mod FramesAtInstructions
 pub mod FramesSpelled
+pub mod GoingOn
 pub mod Handling
 pub mod MapFrames
 pub mod NamedTypes

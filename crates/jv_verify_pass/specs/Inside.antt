@@ -7,4 +7,6 @@ pub mod Parts
 pub mod Seen
 pub mod Settled
 pub mod Stacks
+pub mod Unlike
+pub mod Unmet
 pub mod Walk

@@ -5,11 +5,13 @@
 mod before;
 mod catching;
 mod changes;
+mod difference;
 mod fault;
 mod maps;
 mod merging;
 mod named;
 mod objects;
+mod onward;
 mod opening;
 mod pass;
 mod seen;
@@ -22,8 +24,10 @@ mod walk;
 
 pub use before::{FramesBefore, frames_before};
 pub use catching::handlers_hold;
+pub use difference::Difference;
 pub use fault::CodeFault;
 pub use maps::read_map;
 pub use named::{NamedFrame, NamedType};
+pub use onward::NamedUnmet;
 pub use pass::Pass;
 pub use walk::{FrameRoom, check_code};

@@ -1,5 +1,5 @@
 -- What is said of a method by its texts, and of a place.
-use Rattle.std.specs.Prelude.{◌≡◌, ℕ, Bool, true, false, List, [], ◌∷◌, ◌++◌, codes, Some, IsTrue}
+use Rattle.std.specs.Prelude.{◌≡◌, ℕ, List, [], ◌∷◌, ◌++◌, codes, Some, IsTrue}
 use Rattle.std.specs.Fmt.{decimal}
 use Rattle.jv_pool.specs.Constants.{Entry}
 use Rattle.jv_class_structure.specs.Parts.{CodeSeen, MethodSeen}
@@ -12,10 +12,9 @@ use Rattle.jv_meaning_world.specs.Verdicts.{declared_by}
 use Rattle.jv_meaning_typing.specs.Uses.{Site}
 use Rattle.jv_meaning_typing.specs.declared.verdict.VerifyFault.{VerifyFault}
 use Rattle.jv_meaning_typing.specs.declared.verdict.VerifyRule.{VerifyRule}
-use Rattle.jv_meaning_typing.specs.declared.verdict.VerifyRule.TheVariants as rules
 use Rattle.jv_meaning_typing.specs.Judgement.{IsFirstFault}
 use Rattle.jv_program_base.specs.Escape.{escaped_text}
-use Rattle.jv_explain.specs.Explained.{ExplainsFault, ShowsPlace}
+use Rattle.jv_explain.specs.Explained.{ExplainsFault, ShowsPlace, is_at_instruction}
 use Rattle.jv_explain.specs.Text.{place_text}
 
 -- the method by its number and these texts
@@ -27,13 +26,6 @@ named_text number name descriptor =
 abbrev pub IsPlaceIn : List Entry → (code : List ℕ) → ℕ → List ℕ → Type 0
 IsPlaceIn pool code pc text =
     (other : Instruction) → IsAt code pc other → (insn : Instruction) × IsAt code pc insn × (text ≡ place_text pool pc insn)
-
--- a rule that is broken at an instruction, and not by the whole code
-abbrev pub is_at_instruction : VerifyRule → Bool
-is_at_instruction rules.Code = false
-is_at_instruction rules.HandlerTable = false
-is_at_instruction rules.MapFrames = false
-is_at_instruction rule = true
 
 -- where a rule is broken at an instruction, one starts there
 abbrev pub StandsAt : Site → ℕ → VerifyRule → Type 0

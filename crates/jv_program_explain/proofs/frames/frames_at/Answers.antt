@@ -2,7 +2,7 @@ use Rattle.std.proofs.Common.{sym, ◌∙◌}
 use Rattle.std.specs.Prelude.{string_bytes}
 use Rattle.std.specs.Option.{option_map}
 use Rattle.std.proofs.lemmas.Result.{IfOk-weaker}
-use Rattle.jv_verify.specs.Before.{seen_frame}
+use Rattle.jv_verify.specs.Before.{seen_frame, seen_unmet}
 use Rattle.jv_program_explain.proofs.Faults.{at_none, at_place, typed_in}
 use Rattle.jv_program_explain.proofs.frames.frames_at.Goals as goal
 
@@ -25,6 +25,7 @@ returns c =
       at = b.at;
       falling = option_map seen_frame c.in_ok-found.found.falling;
       map = option_map seen_frame c.in_ok-found.found.map;
+      unmet = option_map seen_unmet c.in_ok-found.found.unmet;
       before = b.before;
       told = told;
     }))
