@@ -10,7 +10,6 @@ use Rattle.jv_meaning_world.specs.declared.content.Content.TheVariants.{OtherVer
 use Rattle.jv_meaning_world.specs.World.{World, loaded}
 use Rattle.jv_meaning_world.specs.declared.verdict.LoadVerdict.{LoadVerdict}
 use Rattle.jv_meaning_typing.specs.declared.verdict.VerifyFault.{VerifyFault}
-use Rattle.jv_meaning_typing.specs.declared.verdict.Verdict.{Verdict}
 use Rattle.jv_meaning_typing.specs.declared.verdict.Verdict.TheVariants.{Verify}
 use Rattle.jv_meaning_typing.specs.Judgement.{IsFirstFault, IsVerdictBehind, IsVerdictOfContent}
 use Rattle.jv_loader.specs.Inside.Reading.{content_of}

@@ -1,5 +1,5 @@
 -- What is said of the first fault of the class of a file.
-use Rattle.std.proofs.Common.{◌≡◌, ℕ, List, ◌++◌, Some, sym, ap, subst, ◌∙◌}
+use Rattle.std.proofs.Common.{◌≡◌, ℕ, List, ◌++◌, Option, Some, sym, ap, subst, ◌∙◌}
 use Rattle.std.specs.Prelude.{slice_get}
 use Rattle.jv_pool.specs.Constants.{utf8_at}
 use Rattle.jv_class_structure.specs.Parts.{MethodSeen, methods_of}
@@ -12,11 +12,12 @@ use Rattle.jv_explain.specs.Text.{broken_text}
 use Rattle.jv_explain.proofs.Named.{IsShownAs, same_pool, shown_at}
 use Rattle.jv_explain.proofs.Standing.{stands_at}
 
-pub explained : StandsInList → (file : ClassStructure) (fault : VerifyFault) (shown : MethodSeen) (k : ℕ) (name descriptor place frames text : List ℕ)
+pub explained : StandsInList → (file : ClassStructure) (fault : VerifyFault) (shown : MethodSeen) (line : Option ℕ) (k : ℕ)
+    (name descriptor place frames text : List ℕ)
     → Some shown ≡ slice_get (methods_of file) k → k ≡ fault.method → utf8_at file.constant_pool shown.name_index ≡ Some name
-    → utf8_at file.constant_pool shown.descriptor_index ≡ Some descriptor → ShowsFaultIn file.constant_pool shown fault place
+    → utf8_at file.constant_pool shown.descriptor_index ≡ Some descriptor → ShowsFaultIn file.constant_pool shown fault line place
     → text ≡ named_text fault.method name descriptor ++ place ++ frames ++ broken_text fault.rule → ExplainsIn file fault frames text
-explained law file fault shown k name descriptor place frames text is at named described shows told = λ world l of first.
+explained law file fault shown line k name descriptor place frames text is at named described shows told = λ world l of first.
     let (x, there, as_shown) = shown_at file l.class of fault.method first.method first.at in
     let both : Some shown ≡ Some x = is ∙ (ap (slice_get (methods_of file)) at ∙ there) in
     let one : x ≡ shown = cc in
@@ -28,6 +29,7 @@ explained law file fault shown k name descriptor place frames text is at named d
     record {
       method = first.method;
       at = first.at;
+      line = line;
       place = place;
       shown = shows l first.method (same_pool file l.class of) mine.code (stands_at law (declared_by l first.method) fault.offset world fault.rule first.breaks);
       told =

@@ -1,5 +1,5 @@
 -- A rule that is broken at an instruction is broken where one starts.
-use Rattle.std.proofs.Common.{◌≡◌, ℕ, true, List, Some, sym, ap, subst, ◌∙◌}
+use Rattle.std.proofs.Common.{◌≡◌, ℕ, true, List, Option, Some, sym, ap, subst, ◌∙◌}
 use Rattle.jv_code.specs.Places.{StandsInList}
 use Rattle.jv_code.specs.Insns.{Instruction}
 use Rattle.jv_class_structure.specs.Parts.{CodeSeen, MethodSeen}
@@ -38,29 +38,31 @@ module _ (stands : StandsInList) (site : Site) (pc : ℕ) where
   stands_at world rules.EndOfCode h = λ on. there h.env h.site_is h.code.is h.holds.insn h.holds.starts
 
 -- what is shown of a rule that is broken at an instruction
-pub place_shown : (rule : VerifyRule) → is_at_instruction rule ≡ true → (site : Site) (pc : ℕ) (text : List ℕ) → ShowsInstruction site pc text → ShowsPlace site pc rule text
-place_shown rules.Code on site pc text h = absurd cc
-place_shown rules.HandlerTable on site pc text h = absurd cc
-place_shown rules.MapFrames on site pc text h = absurd cc
-place_shown rules.Merge on site pc text h = h
-place_shown rules.CoveredHandler on site pc text h = h
-place_shown rules.Instruction on site pc text h = h
-place_shown rules.BranchTarget on site pc text h = h
-place_shown rules.EndOfCode on site pc text h = h
+pub place_shown : (rule : VerifyRule) → is_at_instruction rule ≡ true → (site : Site) (pc : ℕ) (line : Option ℕ) (text : List ℕ) → ShowsInstruction site pc line text
+    → ShowsPlace site pc line rule text
+place_shown rules.Code on site pc line text h = absurd cc
+place_shown rules.HandlerTable on site pc line text h = absurd cc
+place_shown rules.MapFrames on site pc line text h = absurd cc
+place_shown rules.Merge on site pc line text h = h
+place_shown rules.CoveredHandler on site pc line text h = h
+place_shown rules.Instruction on site pc line text h = h
+place_shown rules.BranchTarget on site pc line text h = h
+place_shown rules.EndOfCode on site pc line text h = h
 
 -- the instruction of a method that was shown so
-pub instruction_shown : (pool : List Entry) (shown : MethodSeen) (body : CodeSeen) (fault : VerifyFault) (text : List ℕ) → is_at_instruction fault.rule ≡ true → shown.code ≡ Some body
-    → IsPlaceIn pool body.code fault.offset text → ShowsFaultIn pool shown fault text
-instruction_shown pool shown body fault text on is told = λ l m same code stands.
+pub instruction_shown : (pool : List Entry) (shown : MethodSeen) (body : CodeSeen) (fault : VerifyFault) (line : Option ℕ) (text : List ℕ) → is_at_instruction fault.rule ≡ true
+    → shown.code ≡ Some body
+    → IsPlaceIn pool body.code fault.offset line text → ShowsFaultIn pool shown fault line text
+instruction_shown pool shown body fault line text on is told = λ l m same code stands.
     let (found, has, (insn, at)) = stands on in
     let both : Some found ≡ Some body = sym has ∙ (code ∙ is) in
     let one : found ≡ body = cc in
     let (own, there, says) = told insn (subst (λ (b : CodeSeen). IsAt b.code fault.offset insn) one at) in
-    place_shown fault.rule on (declared_by l m) fault.offset text
+    place_shown fault.rule on (declared_by l m) fault.offset line text
     (record {
       body = body;
       has_code = code ∙ is;
       insn = own;
       at = there;
-      told = says ∙ ap (λ (p : List Entry). place_text p fault.offset own) (sym same);
+      told = says ∙ ap (λ (p : List Entry). place_text p fault.offset line own) (sym same);
     })

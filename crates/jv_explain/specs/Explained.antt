@@ -1,5 +1,5 @@
 -- What is said of the first rule that a method breaks (JVMS 4.10.1): the method, the instruction, the frames before it and the rule.
-use Rattle.std.specs.Prelude.{◌≡◌, ℕ, Bool, true, false, List, [], ◌++◌, Some, slice_get}
+use Rattle.std.specs.Prelude.{◌≡◌, ℕ, Bool, true, false, List, [], ◌++◌, Option, Some, slice_get}
 use Rattle.jv_class.specs.Class.{Method}
 use Rattle.jv_class_structure.specs.Parts.{CodeSeen}
 use Rattle.jv_code.specs.Insns.{Instruction}
@@ -16,13 +16,13 @@ use Rattle.jv_meaning_typing.specs.declared.verdict.Verdict.{Verdict}
 use Rattle.jv_meaning_typing.specs.declared.verdict.Verdict.TheVariants.{Verify}
 use Rattle.jv_explain.specs.Text.{broken_text, method_text, place_text}
 
--- the instruction at an offset of a method's code
-pub record ShowsInstruction (site : Site) (pc : ℕ) (text : List ℕ) : Type 0 where
+-- the instruction at an offset of a method's code, with a line of source
+pub record ShowsInstruction (site : Site) (pc : ℕ) (line : Option ℕ) (text : List ℕ) : Type 0 where
   pub body : CodeSeen
   pub has_code : site.method.code ≡ Some body
   pub insn : Instruction
   pub at : IsAt body.code pc insn
-  pub told : text ≡ place_text site.by.class.constant_pool pc insn
+  pub told : text ≡ place_text site.by.class.constant_pool pc line insn
 
 -- a rule that is broken at an instruction, and not by the whole code
 abbrev pub is_at_instruction : VerifyRule → Bool
@@ -32,18 +32,20 @@ is_at_instruction rules.MapFrames = false
 is_at_instruction rule = true
 
 -- where it is broken at none, no place is shown
-abbrev pub ShowsPlace : Site → ℕ → VerifyRule → List ℕ → Type 0
-ShowsPlace site pc rules.Code text = text ≡ []
-ShowsPlace site pc rules.HandlerTable text = text ≡ []
-ShowsPlace site pc rules.MapFrames text = text ≡ []
-ShowsPlace site pc rule text = ShowsInstruction site pc text
+abbrev pub ShowsPlace : Site → ℕ → (line : Option ℕ) → VerifyRule → List ℕ → Type 0
+ShowsPlace site pc line rules.Code text = text ≡ []
+ShowsPlace site pc line rules.HandlerTable text = text ≡ []
+ShowsPlace site pc line rules.MapFrames text = text ≡ []
+ShowsPlace site pc line rule text = ShowsInstruction site pc line text
 
--- the method, the place, the text of the frames there, and the rule
+-- the method, the place, the text of the frames there, and the rule; and the line of source of the instruction, as the file may say it
+-- (4.7.12), which no definition here speaks of
 pub record ExplainsFault (l : Loaded) (fault : VerifyFault) (frames text : List ℕ) : Type 0 where
   pub method : Method
   pub at : slice_get l.class.methods fault.method ≡ Some method
+  pub line : Option ℕ
   pub place : List ℕ
-  pub shown : ShowsPlace (declared_by l method) fault.offset fault.rule place
+  pub shown : ShowsPlace (declared_by l method) fault.offset line fault.rule place
   pub told : text ≡ method_text fault.method method ++ place ++ frames ++ broken_text fault.rule
 
 -- of a class whose method breaks a rule, with the text of the frames there, and of nothing else

@@ -1,5 +1,5 @@
 -- What is said of a method that breaks a rule, as text (own).
-use Rattle.std.specs.Prelude.{ℕ, List, [], ◌∷◌, ◌++◌, codes}
+use Rattle.std.specs.Prelude.{ℕ, List, [], ◌∷◌, ◌++◌, codes, Option, Some, None}
 use Rattle.std.specs.Fmt.{decimal}
 use Rattle.jv_pool.specs.Constants.{Entry}
 use Rattle.jv_class.specs.Class.{Method}
@@ -14,9 +14,15 @@ abbrev pub method_text : ℕ → Method → List ℕ
 method_text number method =
     codes "  method " ++ decimal number ++ codes ": " ++ escaped_text method.name ++ escaped_text method.descriptor ++ 10 ∷ []
 
--- the instruction at an offset
-abbrev pub place_text : List Entry → ℕ → Instruction → List ℕ
-place_text pool pc insn = codes "  offset " ++ decimal pc ++ codes ": " ++ instruction_text pool pc insn ++ 10 ∷ []
+-- a line of source, where there is one
+abbrev pub line_text : Option ℕ → List ℕ
+line_text None = []
+line_text (Some line) = codes ", line " ++ decimal line
+
+-- the instruction at an offset, with the line of source
+abbrev pub place_text : List Entry → ℕ → (line : Option ℕ) → Instruction → List ℕ
+place_text pool pc line insn =
+    codes "  offset " ++ decimal pc ++ line_text line ++ codes ": " ++ instruction_text pool pc insn ++ 10 ∷ []
 
 -- the rule that is broken
 abbrev pub broken_text : VerifyRule → List ℕ

@@ -10,6 +10,7 @@ use crate::place::place_of;
 use crate::text::{ShownFault, ShownMethod};
 use jv_class::{ClassFile, Method};
 use jv_code::stands_in_list;
+use jv_lines::Lines;
 use jv_meaning_typing::{VerifyFault, VerifyRule};
 use jv_pool::Pool;
 use std::alloc::{AllocError, Global};
@@ -24,20 +25,21 @@ pub fn is_at_instruction(rule: VerifyRule) -> bool
     )
 }
 
-/// The text of the place where a method breaks a rule; nothing where it is none of an instruction.
+/// The text of the place where a method breaks a rule, with a line of source; nothing where it is none of an instruction.
 fn place_in<'a>(
     alloc: Global,
     pool: &Pool<'a>,
     method: &Method<'a>,
     fault: VerifyFault,
+    line: Option<u16>,
 ) -> Result<String, AllocError>
-    ensures { IfOk result (λ text. ShowsFaultIn pool.now (seen_method method.now) fault (string_bytes text)) }
+    ensures { IfOk result (λ text. ShowsFaultIn pool.now (seen_method method.now) fault line (string_bytes text)) }
 {
     if !is_at_instruction(fault.rule) {
         return Ok(String::new(alloc));
     }
     match method.code() {
-        Some(body) => place_of(alloc, pool, body.code, fault.offset),
+        Some(body) => place_of(alloc, pool, body.code, fault.offset, line),
         None => Ok(String::new(alloc)),
     }
 }
@@ -62,9 +64,16 @@ fn told(
     shown.to_string(alloc)
 }
 
-/// What is said of the first fault of the class of a file, with the text of the frames there.
+/// The line of source where a method breaks a rule, where a file with these bytes says it. Nothing is promised of it.
+fn line_at(alloc: Global, bytes: &[u8], fault: VerifyFault) -> Option<u16> {
+    let lines = Lines::read(alloc, bytes);
+    lines.at(usize::from(fault.method), fault.offset)
+}
+
+/// What is said of the first fault of the class of a file with these bytes, with the text of the frames there.
 pub(crate) fn explain_in(
     alloc: Global,
+    bytes: &[u8],
     file: &ClassFile<'_>,
     fault: VerifyFault,
     frames: &str,
@@ -75,7 +84,8 @@ pub(crate) fn explain_in(
     let Some(method) = file.method(usize::from(fault.method)) else {
         return Ok(String::new(alloc));
     };
-    let place = place_in(alloc, file.pool(), &method, fault)?;
+    let line = line_at(alloc, bytes, fault);
+    let place = place_in(alloc, file.pool(), &method, fault, line)?;
     let named = ShownMethod {
         number: fault.method,
         name: file.pool().utf8(method.name),

@@ -14,7 +14,8 @@ use jv_meaning_world::{Content, one_content};
 use std::alloc::Global;
 
 /// What is said of a file with these bytes behind the verdict on it: of one whose class's method breaks a rule the method, the
-/// instruction, the frames there, of which this is the text, and the rule (JVMS 4.10.1), and of others nothing.
+/// instruction, with its line of source where the file says it, the frames there, of which this is the text, and the rule (JVMS 4.10.1),
+/// and of others nothing.
 ///
 /// # Errors
 ///
@@ -33,7 +34,7 @@ pub fn explain_file(
         return Ok(String::new(alloc));
     };
     match read_content(alloc, bytes)? {
-        Content::Holds(file) => Ok(explain_in(alloc, &file, fault, frames)?),
+        Content::Holds(file) => Ok(explain_in(alloc, bytes, &file, fault, frames)?),
         _ => Ok(String::new(alloc)),
     }
 }

@@ -8,14 +8,15 @@ use jv_code::Code;
 use jv_pool::Pool;
 use std::alloc::{AllocError, Global};
 
-/// The text of the instruction at an offset of code; nothing where no instruction starts there.
+/// The text of the instruction at an offset of code, with a line of source; nothing where no instruction starts there.
 pub(crate) fn place_of<'a>(
     alloc: Global,
     pool: &Pool<'a>,
     bytes: &'a [u8],
     offset: u32,
+    line: Option<u16>,
 ) -> Result<String, AllocError>
-    ensures { IfOk result (λ text. IsPlaceIn pool.now bytes.now offset (string_bytes text)) }
+    ensures { IfOk result (λ text. IsPlaceIn pool.now bytes.now offset line (string_bytes text)) }
 {
     let Ok(code) = Code::read(bytes) else {
         return Ok(String::new(alloc));
@@ -24,6 +25,11 @@ pub(crate) fn place_of<'a>(
         return Ok(String::new(alloc));
     }
     let (insn, _next) = code.insn_at(offset);
-    let shown = ShownPlace { pool, offset, insn };
+    let shown = ShownPlace {
+        pool,
+        offset,
+        line,
+        insn,
+    };
     shown.to_string(alloc)
 }

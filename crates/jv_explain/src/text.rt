@@ -2,7 +2,7 @@
 
 ghost use Rattle.std.specs.Prelude.{◌++◌, Some};
 ghost use Rattle.jv_code.specs.Insns.{instruction_of};
-ghost use Rattle.jv_explain.specs.Text.{broken_text, place_text};
+ghost use Rattle.jv_explain.specs.Text.{broken_text, line_text, place_text};
 ghost use Rattle.jv_explain.specs.Inside.Said.{named_text};
 
 use jv_code::Insn;
@@ -12,20 +12,32 @@ use jv_program_base::Escaped;
 use jv_shown::{ShownInsn, ShownRule};
 use std::fmt;
 
-/// A method by its number, its name and its descriptor.
+/// A method by its number, its name and its descriptor, as it is printed.
 #[derive(Clone, Copy)]
-pub(crate) struct ShownMethod<'a> {
-    pub(crate) number: u16,
-    pub(crate) name: &'a [u8],
-    pub(crate) descriptor: &'a [u8],
+pub struct ShownMethod<'a> {
+    /// Its number.
+    pub number: u16,
+    /// Its name.
+    pub name: &'a [u8],
+    /// Its descriptor.
+    pub descriptor: &'a [u8],
 }
 
-/// An instruction at an offset.
+/// A line of source, where there is one.
 #[derive(Clone, Copy)]
-pub(crate) struct ShownPlace<'p, 'a> {
-    pub(crate) pool: &'p Pool<'a>,
-    pub(crate) offset: u32,
-    pub(crate) insn: Insn<&'a [u8]>,
+struct ShownLine(Option<u16>);
+
+/// An instruction at an offset, with the line of source where there is one, as it is printed.
+#[derive(Clone, Copy)]
+pub struct ShownPlace<'p, 'a> {
+    /// The pool of its class.
+    pub pool: &'p Pool<'a>,
+    /// Its offset.
+    pub offset: u32,
+    /// Its line.
+    pub line: Option<u16>,
+    /// The instruction.
+    pub insn: Insn<&'a [u8]>,
 }
 
 /// What is said of a fault: of the method, of the place, of the frames there, and of the rule.
@@ -48,8 +60,19 @@ impl fmt::Display for ShownMethod<'_> {
     }
 }
 
+impl fmt::Display for ShownLine {
+    ghost output = { λ line. Some (line_text line.0) };
+
+    fn fmt<W: fmt::Write>(&self, f: &mut fmt::Formatter<W>) -> fmt::Result {
+        match self.0 {
+            Some(line) => write!(f, ", line {line}"),
+            None => Ok(()),
+        }
+    }
+}
+
 impl fmt::Display for ShownPlace<'_, '_> {
-    ghost output = { λ place. Some (place_text place.pool.now place.offset (instruction_of place.insn)) };
+    ghost output = { λ place. Some (place_text place.pool.now place.offset place.line (instruction_of place.insn)) };
 
     fn fmt<W: fmt::Write>(&self, f: &mut fmt::Formatter<W>) -> fmt::Result {
         let offset = self.offset;
@@ -58,7 +81,8 @@ impl fmt::Display for ShownPlace<'_, '_> {
             offset,
             insn: self.insn,
         };
-        write!(f, "  offset {offset}: {insn}\n")
+        let line = ShownLine(self.line);
+        write!(f, "  offset {offset}{line}: {insn}\n")
     }
 }
 

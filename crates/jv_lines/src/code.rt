@@ -23,15 +23,21 @@ fn later_line(table: &[u8], offset: u16, found: Option<(u16, u16)>) -> Option<(u
     found
 }
 
-/// The line of the instruction at an offset, where an attribute of this Code attribute has it (4.7.3, 4.7.12).
-pub(crate) fn line_in(pool: &Pool<'_>, contents: &[u8], offset: u16) -> Option<u16> {
+/// The code of a Code attribute with these contents, the number of its attributes, and what begins with them (4.7.3).
+pub(crate) fn body_in(contents: &[u8]) -> Option<(&[u8], u16, Rest<'_>)> {
     let mut rest = Rest(contents);
     let _max_stack = rest.half()?;
     let _max_locals = rest.half()?;
-    let _code = rest.counted()?;
+    let code = rest.counted()?;
     let handlers = rest.half()?;
     let _exception_table = rest.bytes(usize::from(handlers) * 8)?;
     let attributes = rest.half()?;
+    Some((code, attributes, rest))
+}
+
+/// The line of the instruction at an offset, where an attribute of this Code attribute has it (4.7.3, 4.7.12).
+pub(crate) fn line_in(pool: &Pool<'_>, contents: &[u8], offset: u16) -> Option<u16> {
+    let (_code, attributes, mut rest) = body_in(contents)?;
     let mut found = None;
     for _ in 0..attributes {
         let (name, table) = rest.attribute()?;

@@ -54,8 +54,8 @@ of_methods world l (m ∷ methods) typed =
         subst (λ (x : List Unresolved). AreOfMethod world l n x) alike (subst (λ (x : Method). AreOfMethod world l x those) same first)
     by_number those first found each (suc k) n t e f = each k n t e f
 
-pub told : (world : World) (l : Loaded) (text : List ℕ) → AreTyped world l l.class.methods → AreBlocks world l text → AreLinksTold world l text
-told world l text typed blocks =
+pub told : (world : World) (l : Loaded) (lines : ℕ → ℕ → Option ℕ) (text : List ℕ) → AreTyped world l l.class.methods → AreBlocks world l lines text → AreLinksTold world l text
+told world l lines text typed blocks =
     let found = of_methods world l l.class.methods typed in
     let exactly : AreUnresolved world l found.0 = record { count = found.1.count; each = found.1.each } in
-    record { found = found.0; exactly = exactly; told = blocks found.0 exactly }
+    record { found = found.0; exactly = exactly; lines = lines; told = blocks found.0 exactly }

@@ -106,26 +106,28 @@ abbrev pub throws_text : World → List Entry → Instruction → LinkError → 
 throws_text world pool insn error =
     codes "  throws " ++ error_class error ++ unless_text insn ++ why_text world pool (operand_index insn) error ++ 10 ∷ []
 
--- the instruction, and what it throws
-abbrev pub reference_text : World → List Entry → Unresolved → List ℕ
-reference_text world pool r = place_text pool r.offset r.insn ++ throws_text world pool r.insn r.error
+-- the instruction, with the line of source of its offset, and what it throws
+abbrev pub reference_text : World → List Entry → (line : ℕ → Option ℕ) → Unresolved → List ℕ
+reference_text world pool line r = place_text pool r.offset (line r.offset) r.insn ++ throws_text world pool r.insn r.error
 
-abbrev pub references_text : World → List Entry → List Unresolved → List ℕ
-references_text world pool those = flat_map (reference_text world pool) those
+abbrev pub references_text : World → List Entry → (line : ℕ → Option ℕ) → List Unresolved → List ℕ
+references_text world pool line those = flat_map (reference_text world pool line) those
 
 -- behind the line of the method with a number, where it has such references
-abbrev pub block_text : World → List Entry → ℕ → Method → List Unresolved → List ℕ
-block_text world pool number m [] = []
-block_text world pool number m (r ∷ more) = method_text number m ++ references_text world pool (r ∷ more)
+abbrev pub block_text : World → List Entry → (line : ℕ → Option ℕ) → ℕ → Method → List Unresolved → List ℕ
+block_text world pool line number m [] = []
+block_text world pool line number m (r ∷ more) = method_text number m ++ references_text world pool line (r ∷ more)
 
--- of methods, the first of which has a number
-abbrev pub blocks_text : World → List Entry → ℕ → List Method → List (List Unresolved) → List ℕ
-blocks_text world pool number (m ∷ methods) (those ∷ more) =
-    block_text world pool number m those ++ blocks_text world pool (suc number) methods more
-blocks_text world pool number _ _ = []
+-- of methods, the first of which has a number, with their lines by number and offset
+abbrev pub blocks_text : World → List Entry → (lines : ℕ → ℕ → Option ℕ) → ℕ → List Method → List (List Unresolved) → List ℕ
+blocks_text world pool lines number (m ∷ methods) (those ∷ more) =
+    block_text world pool (lines number) number m those ++ blocks_text world pool lines (suc number) methods more
+blocks_text world pool lines number _ _ = []
 
--- what is said of a class: the text of exactly the references of its methods that don't resolve
+-- What is said of a class: the text of exactly the references of its methods that don't resolve; and of each method by its number, at each
+-- offset, the line of source, as the file may say it (4.7.12), which no definition here speaks of.
 pub record AreLinksTold (world : World) (l : Loaded) (text : List ℕ) : Type 0 where
   pub found : List (List Unresolved)
   pub exactly : AreUnresolved world l found
-  pub told : text ≡ blocks_text world l.class.constant_pool 0 l.class.methods found
+  pub lines : ℕ → ℕ → Option ℕ
+  pub told : text ≡ blocks_text world l.class.constant_pool lines 0 l.class.methods found

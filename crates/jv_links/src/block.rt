@@ -4,6 +4,7 @@ ghost use Rattle.std.specs.Prelude.{◌≡◌, ◌++◌, IfOk, Some, string_byte
 ghost use Rattle.jv_class.specs.Class.{class_of};
 ghost use Rattle.jv_class_structure.specs.Seen.{seen_method};
 ghost use Rattle.jv_link.specs.Answers.{HoldsAtSite};
+ghost use Rattle.jv_lines.specs.Lines.{line_at};
 ghost use Rattle.jv_link.specs.Seen.{IsSite};
 ghost use Rattle.jv_links.specs.Inside.Shown.{headed, named_text};
 ghost use Rattle.jv_links.specs.Inside.Walked.{AreToldIn, IsBlock};
@@ -12,6 +13,7 @@ ghost use Rattle.jv_meaning_world.specs.Numbers.{HoldsAtNumber};
 use crate::code::references_of;
 use jv_class::{ClassFile, Method};
 use jv_code::Code;
+use jv_lines::Lines;
 use jv_link::Site;
 use jv_loader::Classes;
 use jv_pool::Pool;
@@ -70,17 +72,19 @@ fn headed(alloc: Global, method: ShownMethod<'_>, references: String) -> Result<
     shown.to_string(alloc)
 }
 
-/// The text of the references of a site's method that don't resolve. The pool is that of the site's class.
+/// The text of the references of a site's method that don't resolve, with lines of source. The pool is that of the site's class.
 fn references_in<'a>(
     alloc: Global,
     classes: &Classes<'_>,
     pool: &Pool<'a>,
     site: Site,
     method: &Method<'a>,
+    lines: &Lines,
 ) -> Result<String, AllocError>
     requires site { IsSite classes.now.world site }
     requires pool { HoldsAtSite classes.now.world site (λ s. pool.now ≡ s.by.class.constant_pool) }
-    ensures { IfOk result (λ text. AreToldIn classes.now.world site pool.now (seen_method method.now).code (string_bytes text)) }
+    ensures { IfOk result (λ text.
+        AreToldIn classes.now.world site pool.now (line_at lines.now site.method) (seen_method method.now).code (string_bytes text)) }
 {
     let Some(body) = method.code() else {
         return Ok(String::new(alloc));
@@ -88,25 +92,27 @@ fn references_in<'a>(
     let Ok(code) = Code::read(body.code) else {
         return Ok(String::new(alloc));
     };
-    references_of(alloc, classes, pool, site, &code)
+    references_of(alloc, classes, pool, site, &code, lines)
 }
 
-/// What is said of the references of a site's method that don't resolve. The file is that of the site's class.
+/// What is said of the references of a site's method that don't resolve, with lines of source. The file is that of the site's class.
 pub(crate) fn block_of(
     alloc: Global,
     classes: &Classes<'_>,
     file: &ClassFile<'_>,
     site: Site,
+    lines: &Lines,
 ) -> Result<String, AllocError>
     requires site { IsSite classes.now.world site }
     requires file { HoldsAtNumber classes.now.world site.class (λ l. class_of file.now ≡ Some l.class) }
-    ensures { IfOk result (λ text. HoldsAtSite classes.now.world site (λ s. IsBlock classes.now.world s site.method (string_bytes text))) }
+    ensures { IfOk result (λ text. HoldsAtSite classes.now.world site (λ s.
+        IsBlock classes.now.world s (line_at lines.now site.method) site.method (string_bytes text))) }
 {
     let Some(method) = file.method(site.method) else {
         return Ok(String::new(alloc));
     };
     let pool = file.pool();
-    let references = references_in(alloc, classes, pool, site, &method)?;
+    let references = references_in(alloc, classes, pool, site, &method, lines)?;
     let shown = ShownMethod {
         number: site.method,
         name: pool.utf8(method.name),

@@ -8,7 +8,6 @@ mod code;
 mod error;
 mod reference;
 mod referred;
-mod room;
 mod why;
 
 pub use class::explain_links;

@@ -4,6 +4,7 @@ ghost use Rattle.std.specs.Prelude.{◌≡◌, ◌++◌, IfOk, Some, string_byte
 ghost use Rattle.jv_code.specs.Insns.{instruction_of};
 ghost use Rattle.jv_explain.specs.Text.{place_text};
 ghost use Rattle.jv_link.specs.Answers.{HoldsAtSite};
+ghost use Rattle.jv_lines.specs.Lines.{line_at};
 ghost use Rattle.jv_link.specs.Seen.{IsSite, error_of};
 ghost use Rattle.jv_meaning_typing.specs.LinkErrors.{error_class};
 ghost use Rattle.jv_links.specs.Inside.Shown.{throws_shown, why_shown};
@@ -15,20 +16,13 @@ use crate::error::link_error;
 use crate::referred::operand_index;
 use crate::why::{Why, why_of};
 use jv_code::Insn;
+use jv_explain::ShownPlace;
+use jv_lines::Lines;
 use jv_link::{LinkError, Site};
 use jv_loader::Classes;
 use jv_pool::Pool;
-use jv_shown::ShownInsn;
 use std::alloc::{AllocError, Global};
 use std::fmt;
-
-/// An instruction at an offset, as it is printed.
-#[derive(Clone, Copy)]
-struct ShownPlace<'p, 'a> {
-    pool: &'p Pool<'a>,
-    offset: u32,
-    insn: Insn<&'a [u8]>,
-}
 
 /// The error that an instruction throws, when it doesn't, and why, as they are printed.
 #[derive(Clone, Copy)]
@@ -73,20 +67,6 @@ fn unless_text(insn: &Insn<&[u8]>) -> &'static str
     }
 }
 
-impl fmt::Display for ShownPlace<'_, '_> {
-    ghost output = { λ place. Some (place_text place.pool.now place.offset (instruction_of place.insn)) };
-
-    fn fmt<W: fmt::Write>(&self, f: &mut fmt::Formatter<W>) -> fmt::Result {
-        let offset = self.offset;
-        let insn = ShownInsn {
-            pool: self.pool,
-            offset,
-            insn: self.insn,
-        };
-        write!(f, "  offset {offset}: {insn}\n")
-    }
-}
-
 impl fmt::Display for ShownThrows<'_> {
     ghost output = { λ shown. Some (throws_shown shown.error.now shown.unless.now (why_shown shown.why)) };
 
@@ -99,7 +79,7 @@ impl fmt::Display for ShownThrows<'_> {
 }
 
 impl fmt::Display for ShownReference<'_, '_> {
-    ghost output = { λ shown. Some (place_text shown.place.pool.now shown.place.offset (instruction_of shown.place.insn)
+    ghost output = { λ shown. Some (place_text shown.place.pool.now shown.place.offset shown.place.line (instruction_of shown.place.insn)
         ++ throws_shown shown.throws.error.now shown.throws.unless.now (why_shown shown.throws.why)) };
 
     fn fmt<W: fmt::Write>(&self, f: &mut fmt::Formatter<W>) -> fmt::Result {
@@ -109,7 +89,7 @@ impl fmt::Display for ShownReference<'_, '_> {
     }
 }
 
-/// The text of a reference that ends in an error.
+/// The text of a reference that ends in an error, with a line of source.
 fn told<'a>(
     alloc: Global,
     classes: &Classes<'_>,
@@ -117,12 +97,18 @@ fn told<'a>(
     offset: u32,
     insn: Insn<&'a [u8]>,
     error: LinkError,
+    line: Option<u16>,
 ) -> Result<String, AllocError>
     ensures { IfOk result (λ text. string_bytes text
-        ≡ reference_text classes.now.world pool.now
+        ≡ reference_text classes.now.world pool.now (λ _. line)
         (record { offset = offset; insn = instruction_of insn.entry; error = error_of error })) }
 {
-    let place = ShownPlace { pool, offset, insn };
+    let place = ShownPlace {
+        pool,
+        offset,
+        line,
+        insn,
+    };
     let throws = ShownThrows {
         error: error_class(error),
         unless: unless_text(&insn),
@@ -132,8 +118,8 @@ fn told<'a>(
     shown.to_string(alloc)
 }
 
-/// The text of the reference of an instruction at an offset of a site, where it has one that doesn't resolve. The pool is that of the
-/// site's class.
+/// The text of the reference of an instruction at an offset of a site, where it has one that doesn't resolve, with the line of source. The
+/// pool is that of the site's class.
 pub(crate) fn reference_of<'a>(
     alloc: Global,
     classes: &Classes<'_>,
@@ -141,15 +127,19 @@ pub(crate) fn reference_of<'a>(
     site: Site,
     offset: u32,
     insn: Insn<&'a [u8]>,
+    lines: &Lines,
 ) -> Result<String, AllocError>
     requires site { IsSite classes.now.world site }
     requires pool { HoldsAtSite classes.now.world site (λ s. pool.now ≡ s.by.class.constant_pool) }
     ensures { IfOk result (λ text. HoldsAtSite classes.now.world site (λ s. string_bytes text
-        ≡ references_text classes.now.world pool.now
+        ≡ references_text classes.now.world pool.now (line_at lines.now site.method)
         (if_unresolved offset (instruction_of insn.entry) (link_error classes.now.world s (instruction_of insn.entry))))) }
 {
     match link_error(classes, pool, site, &insn) {
-        Some(error) => told(alloc, classes, pool, offset, insn, error),
+        Some(error) => {
+            let line = lines.at(site.method, offset);
+            told(alloc, classes, pool, offset, insn, error, line)
+        }
         None => Ok(String::new(alloc)),
     }
 }

@@ -72,7 +72,7 @@ fn said_at(
         → IsSaid links classes.now.world content verdict (string_bytes text)) }
 {
     if tells_links(links, verdict) {
-        Ok(explain_links(alloc, classes, number)?)
+        Ok(explain_links(alloc, classes, number, bytes)?)
     } else {
         verdict_told(alloc, state, classes, number, bytes, verdict)
     }

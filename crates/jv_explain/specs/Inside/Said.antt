@@ -1,5 +1,5 @@
 -- What is said of a method by its texts, and of a place.
-use Rattle.std.specs.Prelude.{◌≡◌, ℕ, List, [], ◌∷◌, ◌++◌, codes, Some, IsTrue}
+use Rattle.std.specs.Prelude.{◌≡◌, ℕ, List, [], ◌∷◌, ◌++◌, codes, Option, Some, IsTrue}
 use Rattle.std.specs.Fmt.{decimal}
 use Rattle.jv_pool.specs.Constants.{Entry}
 use Rattle.jv_class_structure.specs.Parts.{CodeSeen, MethodSeen}
@@ -22,10 +22,10 @@ abbrev pub named_text : ℕ → List ℕ → List ℕ → List ℕ
 named_text number name descriptor =
     codes "  method " ++ decimal number ++ codes ": " ++ escaped_text name ++ escaped_text descriptor ++ 10 ∷ []
 
--- the instruction that starts at an offset of code
-abbrev pub IsPlaceIn : List Entry → (code : List ℕ) → ℕ → List ℕ → Type 0
-IsPlaceIn pool code pc text =
-    (other : Instruction) → IsAt code pc other → (insn : Instruction) × IsAt code pc insn × (text ≡ place_text pool pc insn)
+-- the instruction that starts at an offset of code, with a line of source
+abbrev pub IsPlaceIn : List Entry → (code : List ℕ) → ℕ → (line : Option ℕ) → List ℕ → Type 0
+IsPlaceIn pool code pc line text =
+    (other : Instruction) → IsAt code pc other → (insn : Instruction) × IsAt code pc insn × (text ≡ place_text pool pc line insn)
 
 -- where a rule is broken at an instruction, one starts there
 abbrev pub StandsAt : Site → ℕ → VerifyRule → Type 0
@@ -33,10 +33,10 @@ StandsAt site pc rule =
     IsTrue (is_at_instruction rule) → (body : CodeSeen) × (site.method.code ≡ Some body) × ((insn : Instruction) × IsAt body.code pc insn)
 
 -- the place of a fault in a method that was shown so: where the rule is broken at an instruction, one starts there
-abbrev pub ShowsFaultIn : List Entry → MethodSeen → VerifyFault → List ℕ → Type 0
-ShowsFaultIn pool shown fault text =
+abbrev pub ShowsFaultIn : List Entry → MethodSeen → VerifyFault → (line : Option ℕ) → List ℕ → Type 0
+ShowsFaultIn pool shown fault line text =
     (l : Loaded) (m : Method) → l.class.constant_pool ≡ pool → m.code ≡ shown.code → StandsAt (declared_by l m) fault.offset fault.rule
-    → ShowsPlace (declared_by l m) fault.offset fault.rule text
+    → ShowsPlace (declared_by l m) fault.offset line fault.rule text
 
 -- of the class of a file
 abbrev pub ExplainsIn : ClassStructure → VerifyFault → (frames text : List ℕ) → Type 0

@@ -13,32 +13,33 @@ use Rattle.jv_links.specs.Unresolved.{AreInCode, AreUnresolved, Unresolved, unre
 use Rattle.jv_links.specs.Text.{block_text, blocks_text, references_text}
 
 -- those of the instructions before an offset are told
-pub record AreToldBelow (world : World) (pool : List Entry) (site : Site) (insns : List Instruction) (offset : ℕ) (text : List ℕ)
-    : Type 0 where
+pub record AreToldBelow (world : World) (pool : List Entry) (line : ℕ → Option ℕ) (site : Site) (insns : List Instruction) (offset : ℕ)
+    (text : List ℕ) : Type 0 where
   pub before : List Instruction
   pub after : List Instruction
   pub is : insns ≡ before ++ after
   pub place : offset ≡ length (flat_map insn_bytes before)
-  pub told : text ≡ references_text world pool (unresolved_from world site 0 before)
+  pub told : text ≡ references_text world pool line (unresolved_from world site 0 before)
 
 -- those of the whole code of a site, where it is a list of instructions
-abbrev pub AreToldOf : World → SiteByNumber → List Entry → (code : List ℕ) → List ℕ → Type 0
-AreToldOf world site pool code text =
+abbrev pub AreToldOf : World → SiteByNumber → List Entry → (line : ℕ → Option ℕ) → (code : List ℕ) → List ℕ → Type 0
+AreToldOf world site pool line code text =
     HoldsAtSite world site (λ s. (insns : List Instruction) → IsCode code insns
-    → text ≡ references_text world pool (unresolved_from world s 0 insns))
+    → text ≡ references_text world pool line (unresolved_from world s 0 insns))
 
 -- those of a method, where its code, if it has any, is a list of instructions
-abbrev pub AreToldIn : World → SiteByNumber → List Entry → Option CodeSeen → List ℕ → Type 0
-AreToldIn world site pool None text = text ≡ []
-AreToldIn world site pool (Some body) text = AreToldOf world site pool body.code text
+abbrev pub AreToldIn : World → SiteByNumber → List Entry → (line : ℕ → Option ℕ) → Option CodeSeen → List ℕ → Type 0
+AreToldIn world site pool line None text = text ≡ []
+AreToldIn world site pool line (Some body) text = AreToldOf world site pool line body.code text
 
 -- what is said of the method at a site, which has a number
-abbrev pub IsBlock : World → Site → ℕ → List ℕ → Type 0
-IsBlock world s number text =
+abbrev pub IsBlock : World → Site → (line : ℕ → Option ℕ) → ℕ → List ℕ → Type 0
+IsBlock world s line number text =
     (those : List Unresolved) → AreInCode world s s.method.code those
-    → text ≡ block_text world s.by.class.constant_pool number s.method those
+    → text ≡ block_text world s.by.class.constant_pool line number s.method those
 
 -- what is said of a class
-abbrev pub AreBlocks : World → Loaded → List ℕ → Type 0
-AreBlocks world l text =
-    (found : List (List Unresolved)) → AreUnresolved world l found → text ≡ blocks_text world l.class.constant_pool 0 l.class.methods found
+abbrev pub AreBlocks : World → Loaded → (lines : ℕ → ℕ → Option ℕ) → List ℕ → Type 0
+AreBlocks world l lines text =
+    (found : List (List Unresolved)) → AreUnresolved world l found
+    → text ≡ blocks_text world l.class.constant_pool lines 0 l.class.methods found

@@ -1,4 +1,4 @@
-use Rattle.std.proofs.Common.{◌≡◌, List, ℕ, sym, subst}
+use Rattle.std.proofs.Common.{sym, subst}
 use Rattle.std.specs.Prelude.{IsSomeAnd, string_bytes}
 use Rattle.jv_class_structure.specs.Structure.{ClassStructure}
 use Rattle.jv_meaning_world.specs.FileContent.{IsContent}

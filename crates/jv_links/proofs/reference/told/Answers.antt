@@ -14,7 +14,7 @@ returns c =
     let pool = c.args.pool.now in
     let insn = instruction_of c.args.insn in
     let error = error_of c.args.error in
-    let place = place_text pool c.args.offset insn in
+    let place = place_text pool c.args.offset c.args.line insn in
     let why : why_shown c.why_of.result ≡ why_text world pool (operand_index insn) error =
     c.why_of.ensures ∙ ap (λ (i : ℕ). why_text world pool i error) c.operand_index.ensures in
     IfOk-weaker c.to_string.result _ _

@@ -9,7 +9,11 @@ use std::alloc::AllocError;
 const MOST: usize = 16_777_216;
 
 /// Appends to a text, where that is not too long already.
-pub(crate) fn append(text: &mut String, more: &str) -> Result<(), AllocError>
+///
+/// # Errors
+///
+/// Where there was no memory, or the text is longer than 16,777,216 bytes.
+pub fn append(text: &mut String, more: &str) -> Result<(), AllocError>
     ensures { IfOk result (λ _. string_bytes text.new ≡ string_bytes text.old ++ more.now) }
 {
     if text.len() > MOST {
