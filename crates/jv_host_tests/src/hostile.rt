@@ -1,9 +1,11 @@
 //! What no clause says of the program under hostile use: outputs that fail, more folders and more input than there may be, and want of
 //! memory.
 
-use crate::program::{
-    FEEDS, Memory, Narrow, Pieces, REFUSALS, REPORTS, Row, does, is_out, words_of,
-};
+use crate::disk::{Memory, Pieces};
+use crate::feeds::FEEDS;
+use crate::program::{Narrow, Row, does, is_out, words_of};
+use crate::refusals::REFUSALS;
+use crate::reports::REPORTS;
 use jv_program::{Sink, Stream, command};
 use std::alloc::{AllocError, Global};
 use std::hash::RandomState;

@@ -6,11 +6,19 @@
 #[cfg(test)]
 mod calls;
 #[cfg(test)]
+mod disk;
+#[cfg(test)]
+mod escapes;
+#[cfg(test)]
+mod feeds;
+#[cfg(test)]
 mod files;
 #[cfg(test)]
 mod folder;
 #[cfg(test)]
 mod hostile;
+#[cfg(test)]
+mod json;
 #[cfg(test)]
 mod known;
 #[cfg(test)]
@@ -20,7 +28,11 @@ mod program;
 #[cfg(test)]
 mod progress;
 #[cfg(test)]
-mod report;
+mod raw;
+#[cfg(test)]
+mod refusals;
+#[cfg(test)]
+mod reports;
 #[cfg(test)]
 mod stores;
 #[cfg(test)]

@@ -1,6 +1,7 @@
 //! What `--progress` and `--time` tell, and where.
 
-use crate::program::{Memory, Pieces, words_of};
+use crate::disk::{Memory, Pieces};
+use crate::program::words_of;
 use jv_program::{ProgressLine, Stream, command_watched};
 use std::alloc::Global;
 use std::cell::Cell;

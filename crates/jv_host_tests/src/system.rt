@@ -1,6 +1,6 @@
 //! The system's classes, what the program prints of one file, and the verdict on one class by its number.
 
-use crate::program::INT_AS_OBJECT;
+use crate::disk::INT_AS_OBJECT;
 use jv_loader::{Classes, LoadVerdict, system_files};
 use jv_program_check::check_files;
 use jv_verify::{Verdict, VerifyFault, VerifyRule, check_class};
