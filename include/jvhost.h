@@ -65,7 +65,8 @@ enum jvhost_code {
     JVHOST_NO_RANDOM = 16,           /* the system gave no random bytes for hashing (getrandom) */
     JVHOST_OLD_PROCESSOR = 17,       /* the processor lacks what the library was compiled for: x86-64-v2 (SSE4.2, POPCNT, SSSE3) */
     JVHOST_LIBRARY_BROKEN = 18,      /* jvhost_admit, .._beside: a class of the library is not accepted beside the guest's files */
-    JVHOST_NO_LIBRARY = 19           /* jvhost_new_with_library: the files are no library; the fault says why */
+    JVHOST_NO_LIBRARY = 19,          /* jvhost_new_with_library: the files are no library; the fault says why */
+    JVHOST_NO_PLACE = 20             /* jvhost_place: nothing was thrown, or where no instruction of a method can be told */
 };
 
 /* A text for a code, in English, with no full stop. It is static. For a number that is no code it says so. */
@@ -148,6 +149,15 @@ enum jvhost_verdict_kind {
     JVHOST_VERDICT_NO_ACCESS = 10,   /* a direct super is not open to the class */
     JVHOST_VERDICT_FINAL_BROKEN = 11 /* the superclass is final, or a method overrides a final one */
 };
+
+/* Where an object was thrown: how long the names are, and the offset. */
+typedef struct {
+    size_t size;       /* the caller sets it: sizeof(jvhost_place_t) */
+    size_t class_name; /* the bytes of the class's name, as "java/lang/String" */
+    size_t method;     /* those of the method's name */
+    size_t descriptor; /* those of its descriptor, as "(I)J" */
+    uint32_t offset;   /* of the instruction, in the method's code, in bytes */
+} jvhost_place_t;
 
 /* The verdict on a file. With a kind other than JVHOST_VERDICT_VERIFY the other three are 0. */
 typedef struct {
@@ -254,6 +264,12 @@ uint32_t jvhost_last(jvhost_t *host, uint32_t id, uint8_t *room, size_t room_len
 
 /* The same of the class of the object by which the guest ended, with the length 0 where its end is not JVHOST_END_THREW. */
 uint32_t jvhost_end_class(jvhost_t *host, uint32_t id, uint8_t *room, size_t room_length, size_t *length);
+
+/* Where the last object was thrown, caught or not: at an instruction of this method. The names stand in `room` one behind the other, that of
+ * the class, that of the method, and its descriptor, with nothing between them and no NUL: their front, as much as fits; *place has the
+ * lengths of the whole names. Each has at most 65,535 bytes. JVHOST_WRONG_SIZE, JVHOST_NO_HOST, JVHOST_NO_GUEST, JVHOST_NO_PLACE,
+ * JVHOST_HOST_MEMORY. */
+uint32_t jvhost_place(jvhost_t *host, uint32_t id, jvhost_place_t *place, uint8_t *room, size_t room_length);
 
 /* The verdict on one of its files, the first at 0. JVHOST_NO_HOST, JVHOST_NO_GUEST, JVHOST_NO_FILE. Takes no memory. */
 uint32_t jvhost_verdict(jvhost_t *host, uint32_t id, size_t file, jvhost_verdict_t *verdict);

@@ -19,6 +19,7 @@ static int whole_life(uint32_t *refused) {
     uint8_t room[64];
     jvhost_seen seen = {sizeof(jvhost_seen), 0, 0, 0, 0, 77};
     jvhost_verdict_t verdict = {0, 0, 0, 0};
+    jvhost_place_t place = {sizeof(jvhost_place_t), 0, 0, 0, 0};
     jvhost_guest guest = jvhost_guest_of(hi.files, hi.count, "Hi", NULL, 0);
     uint32_t code = jvhost_new_seeded(&host, 1, 2);
     if (code == JVHOST_OK)
@@ -38,6 +39,8 @@ static int whole_life(uint32_t *refused) {
         CHECK(count == 2 && memcmp(room, "Hi", 2) == 0);
         code = jvhost_last(&host, 0, room, sizeof room, &count);
     }
+    if (code == JVHOST_OK)
+        CHECK(jvhost_place(&host, 0, &place, room, sizeof room) == JVHOST_NO_PLACE);
     if (code == JVHOST_OK)
         code = jvhost_verdict_text(&verdict, room, sizeof room, &count);
     if (code == JVHOST_OK)

@@ -34,6 +34,7 @@ static const char *const code_texts[] = {
     "the processor is older than x86-64-v2",
     "a class of the library is not accepted beside the guest's files",
     "the files are no library",
+    "no place of a throw can be told",
 };
 
 const char *jvhost_code_text(uint32_t code) {

@@ -20,12 +20,18 @@ static void texts(void) {
     CHECK(strcmp(jvhost_version(), JVHOST_VERSION) == 0);
     CHECK(strcmp(jvhost_code_text(JVHOST_OK), "done") == 0);
     CHECK(strcmp(jvhost_code_text(99), "no code of this library") == 0);
-    for (uint32_t code = JVHOST_OK; code <= JVHOST_NO_LIBRARY; code++)
+    for (uint32_t code = JVHOST_OK; code <= JVHOST_NO_PLACE; code++)
         for (uint32_t other = JVHOST_OK; other < code; other++)
             CHECK(strcmp(jvhost_code_text(code), jvhost_code_text(other)) != 0);
     CHECK(sizeof(jvhost_guest) == 72);
     CHECK(sizeof(jvhost_seen) == 48);
     CHECK(sizeof(jvhost_library_fault) == 24);
+    CHECK(sizeof(jvhost_place_t) == 40);
+}
+
+static jvhost_place_t nowhere(void) {
+    jvhost_place_t place = {sizeof(jvhost_place_t), 7, 7, 7, 7};
+    return place;
 }
 
 static void one_guest(void) {
@@ -36,6 +42,7 @@ static void one_guest(void) {
     uint8_t room[16];
     jvhost_seen seen = unseen();
     jvhost_verdict_t verdict = {7, 7, 7, 7};
+    jvhost_place_t place = nowhere();
     jvhost_guest guest = hi_guest();
     CHECK(jvhost_new(&host) == JVHOST_OK);
     CHECK(jvhost_admit(&host, &guest, &id) == JVHOST_OK && id == 0);
@@ -59,6 +66,7 @@ static void one_guest(void) {
         CHECK(jvhost_output(&host, id, SIZE_MAX, room, sizeof room, &count) == JVHOST_OK && count == 0);
         CHECK(jvhost_last(&host, id, room, sizeof room, &count) == JVHOST_OK && count == 0);
         CHECK(jvhost_end_class(&host, id, room, sizeof room, &count) == JVHOST_OK && count == 0);
+        CHECK(jvhost_place(&host, id, &place, room, sizeof room) == JVHOST_NO_PLACE && place.offset == 7 && room[0] == 'i');
         CHECK(jvhost_verdict(&host, id, 0, &verdict) == JVHOST_OK);
         CHECK(verdict.kind == JVHOST_VERDICT_ACCEPTED && verdict.method == 0 && verdict.offset == 0 && verdict.rule == 0);
     }
@@ -110,6 +118,26 @@ static void verdicts_and_throws(void) {
     CHECK(jvhost_verdict(&host, 0, 0, &verdict) == JVHOST_OK && memcmp(&verdict, &verdicts[0], sizeof verdict) == 0);
     CHECK(jvhost_run(&host, 1000, 10, &rounds) == JVHOST_OK);
     CHECK(jvhost_observe(&host, 0, &seen) == JVHOST_OK && seen.end == JVHOST_END_THREW && seen.throws == 1);
+    jvhost_place_t place = nowhere();
+    CHECK(jvhost_place(&host, 0, &place, name, sizeof name) == JVHOST_NO_PLACE && place.method == 7);
+    jvhost_free(&host);
+    guest.files = files;
+    guest.output = 1;
+    CHECK(jvhost_new(&host) == JVHOST_OK && jvhost_admit(&host, &guest, &id) == JVHOST_OK);
+    CHECK(jvhost_run(&host, 1000, 10, &rounds) == JVHOST_OK);
+    memset(name, 'x', sizeof name);
+    CHECK(jvhost_place(&host, 0, &place, name, sizeof name) == JVHOST_OK && place.size == sizeof place);
+    CHECK(place.class_name == 2 && place.method == 4 && place.descriptor == 22 && place.offset == 7);
+    CHECK(memcmp(name, "Himain([Ljava/lang/String;)Vx", 29) == 0);
+    memset(name, 'x', sizeof name);
+    place = nowhere();
+    CHECK(jvhost_place(&host, 0, &place, name, 3) == JVHOST_OK && place.descriptor == 22 && memcmp(name, "Himx", 4) == 0);
+    place.size--;
+    CHECK(jvhost_place(&host, 0, &place, name, 3) == JVHOST_WRONG_SIZE);
+    jvhost_free(&host);
+    guest = jvhost_guest_of(files + 1, 1, "Hi", NULL, 0);
+    CHECK(jvhost_new(&host) == JVHOST_OK && jvhost_admit(&host, &guest, &id) == JVHOST_OK);
+    CHECK(jvhost_run(&host, 1000, 10, &rounds) == JVHOST_OK);
     CHECK(jvhost_last(&host, 0, name, sizeof name, &count) == JVHOST_OK);
     CHECK(count == 21 && memcmp(name, "java/lang/VerifyError", 21) == 0);
     memset(name, 'x', sizeof name);
@@ -295,6 +323,7 @@ static void no_host(void) {
     size_t count = 7;
     uint8_t room[4] = "xxx";
     jvhost_seen seen = unseen(), before = seen;
+    jvhost_place_t place = nowhere();
     jvhost_verdict_t verdict = {7, 7, 7, 7};
     jvhost_guest guest = hi_guest();
     CHECK(jvhost_admit(&host, &guest, &id) == JVHOST_NO_HOST && id == 7);
@@ -306,6 +335,7 @@ static void no_host(void) {
     CHECK(jvhost_output(&host, 0, 0, room, 3, &count) == JVHOST_NO_HOST && count == 7 && memcmp(room, "xxx", 3) == 0);
     CHECK(jvhost_last(&host, 0, room, 3, &count) == JVHOST_NO_HOST && count == 7);
     CHECK(jvhost_end_class(&host, 0, room, 3, &count) == JVHOST_NO_HOST && count == 7);
+    CHECK(jvhost_place(&host, 0, &place, room, 3) == JVHOST_NO_HOST && place.offset == 7);
     CHECK(jvhost_verdict(&host, 0, 0, &verdict) == JVHOST_NO_HOST && verdict.kind == 7);
     jvhost_free(&host);
     CHECK(host.host.holds == 0);
@@ -318,6 +348,7 @@ static void misuses(void) {
     size_t count = 7;
     uint8_t room[4] = "xxx";
     jvhost_seen seen = unseen(), before = seen;
+    jvhost_place_t place = nowhere();
     jvhost_verdict_t verdict = {7, 7, 7, 7};
     jvhost_guest guest = hi_guest();
     CHECK(jvhost_new(&host) == JVHOST_OK);
@@ -332,6 +363,7 @@ static void misuses(void) {
     CHECK(jvhost_output(&host, 0, 0, room, 3, &count) == JVHOST_NO_GUEST && count == 7 && memcmp(room, "xxx", 3) == 0);
     CHECK(jvhost_last(&host, 0, room, 3, &count) == JVHOST_NO_GUEST && count == 7);
     CHECK(jvhost_end_class(&host, 0, room, 3, &count) == JVHOST_NO_GUEST && count == 7);
+    CHECK(jvhost_place(&host, 0, &place, room, 3) == JVHOST_NO_GUEST && place.offset == 7);
     CHECK(jvhost_verdict(&host, 0, 0, &verdict) == JVHOST_NO_GUEST && verdict.kind == 7);
 
     /* a struct of another version */

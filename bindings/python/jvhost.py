@@ -15,7 +15,7 @@ import functools
 import os
 from typing import Iterable, List, NamedTuple, Optional, Union
 
-__all__ = ["Budget", "Code", "End", "Error", "Host", "Kind", "Observation", "Verdict", "check", "judge", "version"]
+__all__ = ["Budget", "Code", "End", "Error", "Host", "Kind", "Observation", "Place", "Verdict", "check", "judge", "version"]
 
 Name = Union[str, bytes]
 
@@ -43,6 +43,7 @@ class Code(enum.IntEnum):
     OLD_PROCESSOR = 17
     LIBRARY_BROKEN = 18
     NO_LIBRARY = 19
+    NO_PLACE = 20
 
 
 class End(enum.IntEnum):
@@ -126,8 +127,18 @@ class Verdict(NamedTuple):
         return room.raw[: length.value].decode()
 
 
+class Place(NamedTuple):
+    """Where an object was thrown: the method, as its class's name, its own and its descriptor, and the offset in its code."""
+
+    class_name: bytes
+    method: bytes
+    descriptor: bytes
+    offset: int
+
+
 class Observation(NamedTuple):
-    """What a guest shows after some number of its own steps. Of a judge's one there are no verdicts, `last` or `end_class`."""
+    """What a guest shows after some number of its own steps. Of a judge's one there are no verdicts, `last`, `end_class` or `place`.
+    `place` is where the last object was thrown, caught or not."""
 
     steps: int
     throws: int
@@ -136,6 +147,7 @@ class Observation(NamedTuple):
     verdicts: List[Verdict]
     last: Optional[bytes]
     end_class: Optional[bytes]
+    place: Optional[Place] = None
 
 
 # ---- the library
@@ -157,6 +169,11 @@ class _Seen(ctypes.Structure):
 
 class _Verdict(ctypes.Structure):
     _fields_ = [("kind", ctypes.c_uint32), ("method", ctypes.c_uint32), ("offset", ctypes.c_uint32), ("rule", ctypes.c_uint32)]
+
+
+class _Place(ctypes.Structure):
+    _fields_ = [("size", ctypes.c_size_t), ("class_name", ctypes.c_size_t), ("method", ctypes.c_size_t), ("descriptor", ctypes.c_size_t),
+                ("offset", ctypes.c_uint32)]
 
 
 class _Fault(ctypes.Structure):
@@ -185,6 +202,7 @@ def _declared():
         ("output", u32, [pointer, u32, size, pointer, size, pointer]),
         ("last", u32, [pointer, u32, pointer, size, pointer]),
         ("end_class", u32, [pointer, u32, pointer, size, pointer]),
+        ("place", u32, [pointer, u32, pointer, pointer, size]),
         ("verdict", u32, [pointer, u32, size, pointer]),
         ("verdict_text", u32, [pointer, pointer, size, pointer]),
         ("check", u32, [pointer, size, pointer, size]),
@@ -334,7 +352,7 @@ class Host:
         _want_ok(_library.jvhost_observe(ctypes.byref(self._handle), guest, ctypes.byref(seen)))
         verdicts = [self._verdict(guest, it) for it in range(seen.verdicts)]
         last, end_class = (self._name(it, guest) for it in (_library.jvhost_last, _library.jvhost_end_class))
-        return Observation(seen.steps, seen.throws, self.output(guest), End(seen.end), verdicts, last, end_class)
+        return Observation(seen.steps, seen.throws, self.output(guest), End(seen.end), verdicts, last, end_class, self._place(guest))
 
     def output(self, guest: int, start: int = 0) -> bytes:
         """The bytes that a guest has written, from a place on."""
@@ -349,6 +367,16 @@ class Host:
         told = _Verdict()
         _want_ok(_library.jvhost_verdict(ctypes.byref(self._handle), guest, file, ctypes.byref(told)))
         return _verdict(told)
+
+    def _place(self, guest: int) -> Optional[Place]:
+        told, room = _Place(ctypes.sizeof(_Place)), ctypes.create_string_buffer(3 * 65_535)
+        code = _library.jvhost_place(ctypes.byref(self._handle), guest, ctypes.byref(told), room, 3 * 65_535)
+        if code == Code.NO_PLACE:
+            return None
+        _want_ok(code)
+        method, descriptor = told.class_name, told.class_name + told.method
+        names = room.raw[: descriptor + told.descriptor]
+        return Place(names[:method], names[method:descriptor], names[descriptor:], told.offset)
 
     def _name(self, call, guest: int) -> Optional[bytes]:
         room, length = ctypes.create_string_buffer(65_535), ctypes.c_size_t()

@@ -38,7 +38,7 @@ def main():
         assert host.turn(guest, 2) == 2 and host.run(1, 100) == 4
         seen = host.observe(guest)
         assert (seen.steps, seen.throws, seen.output, seen.end) == (6, 0, b"Hi", jvhost.End.RETURNED)
-        assert seen.last is None and seen.end_class is None and seen.verdicts[0].kind == jvhost.Kind.ACCEPTED
+        assert seen.last is None and seen.end_class is None and seen.place is None and seen.verdicts[0].kind == jvhost.Kind.ACCEPTED
         assert host.output(guest, 1) == b"i" and host.output(guest, 9) == b""
     assert raises(jvhost.Code.NO_HOST, host.observe, 0)
     host.close()
@@ -69,6 +69,9 @@ def main():
     with jvhost.Host() as host:
         assert [str(it) for it in host.check([hi, b"", hi])] == ["Accepted", "Format", "Duplicate"]
         assert host.judge([hi], "Hi") == jvhost.judge([hi], "Hi")
+    with jvhost.Host() as host:
+        host.run(1_000, host.admit([hi], "Hi", b"", jvhost.Budget(output=1)) + 1)
+        assert host.observe(0).place == jvhost.Place(b"Hi", b"main", b"([Ljava/lang/String;)V", 7)
     thrower = jvhost.Host()
     guest = thrower.admit([read(root, "crates", "embed_host", "data", "Echo.class"), b""], "None")
     assert thrower.observe(guest).end == jvhost.End.NO_MAIN

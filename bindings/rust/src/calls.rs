@@ -50,6 +50,16 @@ pub struct Fault {
 }
 
 #[repr(C)]
+#[derive(Default)]
+pub struct Place {
+    pub size: usize,
+    pub class_name: usize,
+    pub method: usize,
+    pub descriptor: usize,
+    pub offset: u32,
+}
+
+#[repr(C)]
 pub struct HostPart {
     pub kept: *mut u8,
     pub owned: *mut u8,
@@ -76,6 +86,7 @@ extern "C" {
     pub fn jvhost_output(host: *mut Handle, id: u32, from: usize, room: *mut u8, room_length: usize, copied: *mut usize) -> u32;
     pub fn jvhost_last(host: *mut Handle, id: u32, room: *mut u8, room_length: usize, length: *mut usize) -> u32;
     pub fn jvhost_end_class(host: *mut Handle, id: u32, room: *mut u8, room_length: usize, length: *mut usize) -> u32;
+    pub fn jvhost_place(host: *mut Handle, id: u32, place: *mut Place, room: *mut u8, room_length: usize) -> u32;
     pub fn jvhost_verdict(host: *mut Handle, id: u32, file: usize, verdict: *mut Verdict) -> u32;
     pub fn jvhost_verdict_text(verdict: *const Verdict, room: *mut u8, room_length: usize, length: *mut usize) -> u32;
     pub fn jvhost_check(files: *const Bytes, file_count: usize, verdicts: *mut Verdict, room: usize) -> u32;

@@ -91,6 +91,8 @@ impl LibraryFault {
 
 const NO_LIBRARY: u32 = 19;
 
+const NO_PLACE: u32 = 20;
+
 impl Error {
     const CODES: [(Error, u32); 9] = [
         (Error::NoGuest, 3),
@@ -279,6 +281,19 @@ impl fmt::Display for Verdict {
     }
 }
 
+/// Where an object was thrown: an instruction of a method.
+#[derive(Clone, Debug, PartialEq, Eq)]
+pub struct Place {
+    /// The name of the class that declares the method.
+    pub class: Vec<u8>,
+    /// The method's name.
+    pub method: Vec<u8>,
+    /// Its descriptor.
+    pub descriptor: Vec<u8>,
+    /// The offset of the instruction in its code, in bytes.
+    pub offset: u32,
+}
+
 /// What a guest shows after some number of its own steps.
 #[derive(Clone, Debug, PartialEq, Eq)]
 pub struct Observation {
@@ -292,6 +307,8 @@ pub struct Observation {
     pub verdicts: Vec<Verdict>,
     /// The class of the last object that was thrown; of `judge` it is not told.
     pub last: Option<Vec<u8>>,
+    /// Where it was thrown, caught or not, where a method's instruction can be told; of `judge` it is not told.
+    pub place: Option<Place>,
     /// How it ended, if it did.
     pub end: End,
 }
@@ -344,6 +361,7 @@ fn judged(
         output,
         verdicts: Vec::new(),
         last: None,
+        place: None,
         end: end_of(seen.end, Vec::new()),
     })
 }
@@ -434,6 +452,21 @@ impl Host {
         Ok(seen)
     }
 
+    fn place(&mut self, id: u32) -> Result<Option<Place>, Error> {
+        let mut told = calls::Place { size: std::mem::size_of::<calls::Place>(), ..calls::Place::default() };
+        let mut room = vec![0; 3 * 65_535];
+        // SAFETY: the handle holds a host, and the room is as long as the call is told.
+        let code = unsafe { calls::jvhost_place(&mut self.handle, id, &mut told, room.as_mut_ptr(), room.len()) };
+        if code == NO_PLACE {
+            return Ok(None);
+        }
+        want_ok(code)?;
+        let (class, rest) = room.split_at(told.class_name);
+        let (method, rest) = rest.split_at(told.method);
+        let descriptor = &rest[..told.descriptor];
+        Ok(Some(Place { class: class.to_vec(), method: method.to_vec(), descriptor: descriptor.to_vec(), offset: told.offset }))
+    }
+
     /// What a guest shows.
     pub fn observe(&mut self, id: u32) -> Result<Observation, Error> {
         let seen = self.seen(id)?;
@@ -453,6 +486,7 @@ impl Host {
             output: self.output(id, 0)?,
             verdicts,
             last: (!last.is_empty()).then_some(last),
+            place: self.place(id)?,
             end: end_of(seen.end, class),
         })
     }

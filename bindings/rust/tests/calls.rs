@@ -1,7 +1,7 @@
 //! Each call of the crate, without `unsafe`.
 #![forbid(unsafe_code)]
 
-use jvhost::{check, judge, version, End, Error, Guest, Host, LibraryFault, Verdict};
+use jvhost::{check, judge, version, End, Error, Guest, Host, LibraryFault, Place, Verdict};
 use std::fs;
 use std::thread;
 
@@ -94,7 +94,7 @@ fn hosts_guests() {
     assert_eq!(host.run(1, 100), Ok(4));
     let seen = host.observe(id).unwrap();
     assert_eq!((seen.steps, seen.output.as_slice(), seen.end), (6, b"Hi".as_slice(), End::Returned));
-    assert!(seen.last.is_none() && seen.verdicts[0].is_accepted());
+    assert!(seen.last.is_none() && seen.place.is_none() && seen.verdicts[0].is_accepted());
     assert_eq!(host.output(id, 1).unwrap(), b"i");
     assert!(host.output(id, 9).unwrap().is_empty());
     let class = hi();
@@ -105,6 +105,16 @@ fn hosts_guests() {
     guest.cells = 63;
     assert_eq!(host.admit(&guest), Err(Error::BudgetOutOfRange));
     assert_eq!(Error::BudgetOutOfRange.to_string(), "a number of the budget is out of its range");
+}
+
+#[test]
+fn tells_where_it_was_thrown() {
+    let mut host = Host::new().unwrap();
+    let class = hi();
+    let id = host.admit(&Guest { output: 1, ..Guest::new(&[&class], b"Hi", b"") }).unwrap();
+    host.run(1_000, 10).unwrap();
+    let place = Place { class: b"Hi".to_vec(), method: b"main".to_vec(), descriptor: b"([Ljava/lang/String;)V".to_vec(), offset: 7 };
+    assert_eq!(host.observe(id).unwrap().place, Some(place));
 }
 
 #[test]

@@ -76,7 +76,13 @@ module _ {M : Type 1} {𝓤 : Ura M} {𝓛 : Logic 𝓤} {K : Type 0} {Γ : List
                     ),
                   ),
                 ),
-                ((d.verdict.kind, (d.verdict.method, (d.verdict.offset, (d.verdict.rule, tt)))), (d.bytes, (d.verdicts, tt))),
+                (
+                  (d.verdict.kind, (d.verdict.method, (d.verdict.offset, (d.verdict.rule, tt)))),
+                  (
+                    (d.place.size, (d.place.class, (d.place.method, (d.place.descriptor, (d.place.offset, tt))))),
+                    (d.bytes, (d.verdicts, tt)),
+                  ),
+                ),
               ),
             ),
           ),

@@ -6,7 +6,7 @@ use Rattle.jv_loader.specs.declared.library_fault.LibraryFault.TheVariants as fa
 use Rattle.jv_loader.specs.LibraryFault.{IsLibraryFault, IsSomeLibrary}
 use Rattle.jv_meaning_world.specs.Library.{with_library}
 use Rattle.jv_meaning_typing.specs.declared.verdict.Verdict.{Verdict}
-use Rattle.jv_meaning_machine.specs.State.{End}
+use Rattle.jv_meaning_machine.specs.State.{End, ThrowPlace}
 use Rattle.jv_meaning_machine.specs.State.{End as ends}
 use Rattle.jv_meaning_machine.specs.Start.{Budget}
 use Rattle.jv_meaning_machine.specs.Alone.{GuestFiles, Stands}
@@ -16,7 +16,7 @@ use Rattle.jv_program_base.specs.Verdict.{verdict_text}
 use Rattle.jv_host.specs.Host.{Admission, after_feed}
 use Rattle.jv_host.specs.Calls.{admission, IsTurn, IsRun, IsShown}
 use Rattle.jv_host.specs.Limits.{IsLibraryBroken, first_refusal, feed_refusal as first_feed_refusal}
-use Rattle.libjvhost.specs.Codes.{ok, no_host, no_guest, no_file, host_memory, library_broken, no_library, no_room, wrong_verdict, admit_refusal, feed_refusal, IsAnswer}
+use Rattle.libjvhost.specs.Codes.{ok, no_host, no_guest, no_file, host_memory, library_broken, no_library, no_place, no_room, wrong_verdict, admit_refusal, feed_refusal, IsAnswer}
 use Rattle.libjvhost.specs.Told.{AreNumbers, IsFaultTold, IsTellable, told_verdict}
 use Rattle.libjvhost.specs.declared.told.Seen.{Seen}
 use Rattle.libjvhost.specs.declared.told.ToldFault.{ToldFault}
@@ -133,6 +133,19 @@ pub record TellsVerdict (id file : ℕ) (old new : List Admission) (code : ℕ) 
 -- The front of the room holds the front of these items, as many as fit, and the rest of it is as it was.
 abbrev pub IsFilled : {X : Type 0} → (items old new : List X) → Type 0
 IsFilled items old new = new ≡ take (length old) items ++ drop (length items) old
+
+-- ---- where the last object was thrown
+
+-- of what the guest shows there is a place, and so much is told of it
+abbrev pub TellsOfPlace : (ThrowPlace → Type 0) → Observed → Type 0
+TellsOfPlace Tells o = (p : ThrowPlace) × (o.place ≡ Some p) × Tells p
+
+-- The call says of the place what it is to say; or the guest shows none, or there is no such guest, or memory was refused.
+pub record Places (id : ℕ) (old new : List Admission) (code : ℕ) (Tells : ThrowPlace → Type 0) : Type 0 where
+  pub same : new ≡ old
+  pub told : code ≡ ok → ShowsSome old id (TellsOfPlace Tells)
+  pub refused :
+      code ≢ ok → IsNoGuest old id code ⊎ ((code ≡ no_place) × ShowsSome old id (λ o. o.place ≡ None)) ⊎ (code ≡ host_memory)
 
 -- ---- calls without a host, and beside a host's library
 

@@ -38,6 +38,9 @@ library_broken = 18
 abbrev pub no_library : ℕ
 no_library = 19
 
+abbrev pub no_place : ℕ
+no_place = 20
+
 abbrev pub admit_code : AdmitFault → ℕ
 admit_code refusals.NoFiles = 5
 admit_code refusals.TooManyFiles = 6

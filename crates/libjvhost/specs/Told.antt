@@ -1,12 +1,12 @@
 -- How what a guest brings and shows is told in C's structs.
-use Rattle.std.specs.Prelude.{◌≡◌, ℕ, ◌<◌, ⊤, List, map, length}
+use Rattle.std.specs.Prelude.{◌≡◌, ℕ, ◌<◌, ⊤, List, ◌++◌, map, length}
 use Rattle.std.specs.Option.{unwrap_or}
 use Rattle.jv_limits.specs.Bytes.{bytes_of}
 use Rattle.jv_meaning_world.specs.declared.verdict.LoadVerdict.{LoadVerdict}
 use Rattle.jv_meaning_world.specs.declared.verdict.LoadVerdict.TheVariants as reasons
 use Rattle.jv_meaning_typing.specs.declared.verdict.Verdict.{Verdict}
 use Rattle.jv_meaning_typing.specs.declared.verdict.Verdict.TheVariants.{Refused, Verify, Accepted}
-use Rattle.jv_meaning_machine.specs.State.{End}
+use Rattle.jv_meaning_machine.specs.State.{End, ThrowPlace}
 use Rattle.jv_meaning_machine.specs.State.{End as ends}
 use Rattle.jv_meaning_machine.specs.Start.{Budget}
 use Rattle.jv_meaning_machine.specs.Alone.{GuestFiles}
@@ -18,6 +18,7 @@ use Rattle.jv_program_base.specs.Verdict.{rule_number}
 use Rattle.libjvhost.specs.declared.told.Guest.{Guest}
 use Rattle.libjvhost.specs.declared.told.Seen.{Seen}
 use Rattle.libjvhost.specs.declared.told.ToldFault.{ToldFault}
+use Rattle.libjvhost.specs.declared.told.ToldPlace.{ToldPlace}
 use Rattle.libjvhost.specs.declared.told.ToldVerdict.{ToldVerdict}
 
 -- ---- what a guest brings
@@ -45,6 +46,19 @@ pub record AreNumbers (seen : Seen) (o : Observed) : Type 0 where
   pub output : seen.output ≡ length o.output
   pub verdicts : seen.verdicts ≡ length o.verdicts
   pub end : seen.end ≡ end_number o.end
+
+-- ---- where the last object was thrown
+
+-- how long the names are, and the offset
+pub record IsPlaceTold (told : ToldPlace) (p : ThrowPlace) : Type 0 where
+  pub class : told.class ≡ length p.class
+  pub method : told.method ≡ length p.method
+  pub descriptor : told.descriptor ≡ length p.descriptor
+  pub offset : told.offset ≡ p.offset
+
+-- the names of the class and the method, and the descriptor, one behind the other
+abbrev pub place_names : ThrowPlace → List ℕ
+place_names p = p.class ++ p.method ++ p.descriptor
 
 -- ---- verdicts
 

@@ -39,6 +39,8 @@ pub(crate) const WRONG_VERDICT: u32 = 14;
 pub(crate) const LIBRARY_BROKEN: u32 = 18;
 /// Files are no library.
 pub(crate) const NO_LIBRARY: u32 = 19;
+/// No place of a throw can be told.
+pub(crate) const NO_PLACE: u32 = 20;
 
 pub(crate) fn admit_code(fault: AdmitFault) -> u32
     ensures { result ≡ admit_code fault }

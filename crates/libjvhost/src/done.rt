@@ -4,7 +4,7 @@ ghost use Rattle.std.specs.Prelude.{◌≡◌, ◌⊎◌};
 ghost use Rattle.libjvhost.specs.Codes.{ok, host_memory};
 
 use crate::codes::{HOST_MEMORY, OK};
-use crate::told::{ACCEPTED, Seen, ToldVerdict, UNSEEN};
+use crate::told::{ACCEPTED, NOWHERE, Seen, ToldPlace, ToldVerdict, UNSEEN};
 use std::alloc::Global;
 
 /// What came of a job: a code, and what else it is to say.
@@ -14,6 +14,7 @@ pub struct Done {
     pub(crate) number: u64,
     pub(crate) seen: Seen,
     pub(crate) verdict: ToldVerdict,
+    pub(crate) place: ToldPlace,
     pub(crate) bytes: Vec<u8>,
     pub(crate) verdicts: Vec<ToldVerdict>,
 }
@@ -27,6 +28,7 @@ pub(crate) fn coded(alloc: Global, code: u32) -> Done
         number: 0,
         seen: UNSEEN,
         verdict: ACCEPTED,
+        place: NOWHERE,
         bytes: Vec::new(alloc),
         verdicts: Vec::new(alloc),
     }

@@ -1,21 +1,22 @@
 //! What is asked of the host behind a handle, and what comes of it.
 
-ghost use Rattle.std.specs.Prelude.{◌≡◌, take, drop};
-ghost use Rattle.jv_host.specs.Showing.{observed_of};
-ghost use Rattle.libjvhost.specs.Told.{AreNumbers, budget_told, files_told};
-ghost use Rattle.libjvhost.specs.Calls.{Admits, Turns, Runs, Feeds, Observes, Copies, TellsVerdict, end_class, last_class};
-ghost use Rattle.libjvhost.specs.Inside.Jobs.{Does};
+ghost use Rattle.std.specs.Prelude.{◌≡◌, ◌⊎◌, IfOk, take, drop};
+ghost use Rattle.jv_host.specs.Showing.{observed_of, seen_place};
+ghost use Rattle.libjvhost.specs.Codes.{ok, host_memory};
+ghost use Rattle.libjvhost.specs.Told.{AreNumbers, budget_told, files_told, place_names};
+ghost use Rattle.libjvhost.specs.Calls.{Admits, Turns, Runs, Feeds, Observes, Copies, Places, TellsVerdict, end_class, last_class};
+ghost use Rattle.libjvhost.specs.Inside.Jobs.{Does, IsPlaceIn};
 
 use crate::checking::check;
-use crate::codes::{HOST_MEMORY, NO_FILE, NO_GUEST, OK, admit_code, feed_code};
+use crate::codes::{HOST_MEMORY, NO_FILE, NO_GUEST, NO_PLACE, OK, admit_code, feed_code};
 use crate::done::{Done, coded, copied, numbered};
 use crate::judging::judge;
 use crate::room::{front_of, rest_of};
-use crate::told::{Guest, budget_of, files_of, seen_of, told_verdict};
-use jv_host::{GuestEnd, GuestId, Host, Observation};
+use crate::told::{Guest, budget_of, files_of, seen_of, told_place, told_verdict};
+use jv_host::{GuestEnd, GuestId, Host, Observation, ThrowPlace};
 use jv_loader::SystemFiles;
 use jv_store::Cells;
-use std::alloc::Global;
+use std::alloc::{AllocError, Global};
 use std::hash::RandomState;
 
 /// What is asked of a host. What it brings has to stay for the call, but what a guest that is admitted does.
@@ -39,6 +40,8 @@ pub enum Job<'j> {
     EndClass(GuestId),
     /// To tell a verdict.
     Verdict(GuestId, usize),
+    /// To tell where the last object was thrown, and to copy the names.
+    Place(GuestId),
     /// To judge files beside its library, with room for so many verdicts.
     Check(&'j [&'j [u8]], usize),
     /// To judge one guest beside its library, with so many steps and room for so many bytes.
@@ -162,6 +165,44 @@ fn verdict(alloc: Global, host: &Host<'_, Cells>, id: GuestId, file: usize) -> D
     }
 }
 
+/// The names of a place, one behind the other.
+fn place_names(alloc: Global, place: ThrowPlace<'_>) -> Result<Vec<u8>, AllocError>
+    ensures { IfOk result (λ names. names.items ≡ place_names (seen_place place.entry)) }
+{
+    let mut names = Vec::from_slice(alloc, place.class)?;
+    names.extend_from_slice(place.method)?;
+    names.extend_from_slice(place.descriptor)?;
+    Ok(names)
+}
+
+/// A place, with its names, or want of memory.
+fn placed(alloc: Global, place: ThrowPlace<'_>) -> Done
+    ensures code { (result.code ≡ ok) ⊎ (result.code ≡ host_memory) }
+    ensures told { result.code ≡ ok → IsPlaceIn result (seen_place place.entry) }
+{
+    match place_names(alloc, place) {
+        Ok(names) => {
+            let mut done = coded(alloc, OK);
+            done.place = told_place(place);
+            done.bytes = names;
+            done
+        }
+        Err(_) => coded(alloc, HOST_MEMORY),
+    }
+}
+
+fn place(alloc: Global, host: &Host<'_, Cells>, id: GuestId) -> Done
+    ensures { Places id.0 host.now host.now result.code (IsPlaceIn result) }
+{
+    match host.observe(id) {
+        Ok(shown) => match shown.place {
+            Some(place) => placed(alloc, place),
+            None => coded(alloc, NO_PLACE),
+        },
+        Err(_) => coded(alloc, NO_GUEST),
+    }
+}
+
 /// Does a job.
 pub(crate) fn do_job<'a>(
     alloc: Global,
@@ -182,6 +223,7 @@ pub(crate) fn do_job<'a>(
         Job::Last(id) => last(alloc, host, id),
         Job::EndClass(id) => end(alloc, host, id),
         Job::Verdict(id, file) => verdict(alloc, host, id, file),
+        Job::Place(id) => place(alloc, host, id),
         Job::Check(files, room) => check(alloc, state, system, files, room),
         Job::Judge(guest, n, room) => judge(alloc, state, system, guest, n, room),
     }

@@ -22,4 +22,4 @@ mod verdict_text;
 
 pub use handle::{JvHost, Opaque, Owner};
 pub use kept::kept_is_send;
-pub use told::{Guest, Seen, ToldVerdict};
+pub use told::{Guest, Seen, ToldPlace, ToldVerdict};

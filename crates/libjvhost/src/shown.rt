@@ -1,16 +1,16 @@
 //! What a guest shows.
 
 ghost use Rattle.std.specs.Prelude.{◌≡◌, ◌≢◌, length, take, drop};
-ghost use Rattle.libjvhost.specs.Calls.{OverHost, Observes, Copies, TellsVerdict, IsFilled, end_class, last_class};
+ghost use Rattle.libjvhost.specs.Calls.{OverHost, Observes, Copies, Places, TellsVerdict, IsFilled, end_class, last_class};
 ghost use Rattle.libjvhost.specs.Codes.{ok, wrong_size};
 ghost use Rattle.libjvhost.specs.Handles.{host_of};
-ghost use Rattle.libjvhost.specs.Told.{AreNumbers};
+ghost use Rattle.libjvhost.specs.Told.{AreNumbers, IsPlaceTold, place_names};
 
 use crate::codes::{OK, WRONG_SIZE};
 use crate::handle::{JvHost, perform};
 use crate::jobs::Job;
 use crate::room::fill;
-use crate::told::{SEEN_SIZE, Seen, ToldVerdict};
+use crate::told::{PLACE_SIZE, SEEN_SIZE, Seen, ToldPlace, ToldVerdict};
 use jv_host::GuestId;
 use std::alloc::Global;
 
@@ -95,6 +95,33 @@ pub extern "C" fn jvhost_end_class(
     if done.code == OK {
         fill(&done.bytes, room);
         *count = done.bytes.len();
+    }
+    done.code
+}
+
+/// Tells where the last object was thrown, and copies the names of the class and the method and the descriptor, one behind the other, as
+/// much as fits.
+#[unsafe(no_mangle)]
+pub extern "C" fn jvhost_place(
+    alloc: Global,
+    host: &mut JvHost,
+    id: u32,
+    place: &mut ToldPlace,
+    room: &mut [u8],
+) -> u32
+    ensures size { place.old.size ≢ 40 → (result ≡ wrong_size) × (host_of host.new ≡ host_of host.old) }
+    ensures places { place.old.size ≡ 40 → OverHost (host_of host.old) (host_of host.new) result (λ old new.
+        Places id old new result (λ p. IsPlaceTold place.new p × IsFilled (place_names p) room.old room.new)) }
+    ensures place { result ≢ ok → place.new ≡ place.old }
+    ensures room { result ≢ ok → room.new ≡ room.old }
+{
+    if place.size != PLACE_SIZE {
+        return WRONG_SIZE;
+    }
+    let done = perform(alloc, host, Job::Place(GuestId(id)));
+    if done.code == OK {
+        *place = done.place;
+        fill(&done.bytes, room);
     }
     done.code
 }

@@ -2,12 +2,12 @@
 
 ghost use Rattle.std.specs.Prelude.{◌≡◌};
 ghost use Rattle.jv_host.specs.Started.{budget_of};
-ghost use Rattle.jv_host.specs.Showing.{observed_of};
+ghost use Rattle.jv_host.specs.Showing.{observed_of, seen_place};
 ghost use Rattle.jv_host.specs.Files.{guest_of};
 ghost use Rattle.jv_program_base.specs.Verdict.{rule_number};
-ghost use Rattle.libjvhost.specs.Told.{AreNumbers, IsFaultTold, budget_told, files_told, reason_number, told_verdict};
+ghost use Rattle.libjvhost.specs.Told.{AreNumbers, IsFaultTold, IsPlaceTold, budget_told, files_told, reason_number, told_verdict};
 
-use jv_host::{Budget, GuestEnd, GuestFiles, Observation};
+use jv_host::{Budget, GuestEnd, GuestFiles, Observation, ThrowPlace};
 use jv_loader::{LibraryFault, SystemFiles};
 use jv_meaning_typing::{Verdict, VerifyFault, VerifyRule};
 use jv_meaning_world::LoadVerdict;
@@ -17,6 +17,9 @@ pub(crate) const GUEST_SIZE: usize = 72;
 
 /// The bytes of a `Seen`.
 pub(crate) const SEEN_SIZE: usize = 48;
+
+/// The bytes of a `ToldPlace`.
+pub(crate) const PLACE_SIZE: usize = 40;
 
 /// The bytes of a `ToldFault`.
 pub(crate) const FAULT_SIZE: usize = 24;
@@ -73,6 +76,22 @@ pub struct ToldVerdict {
     pub rule: u32,
 }
 
+/// Where the last object was thrown: `jvhost_place_t`.
+#[repr(C)]
+#[derive(Clone, Copy)]
+pub struct ToldPlace {
+    /// The bytes of this struct.
+    pub size: usize,
+    /// How many bytes the class's name has.
+    pub class: usize,
+    /// How many bytes the method's name has.
+    pub method: usize,
+    /// How many bytes its descriptor has.
+    pub descriptor: usize,
+    /// The offset of the instruction in its code, in bytes.
+    pub offset: u32,
+}
+
 /// What is wrong with files that are no library: `jvhost_library_fault`.
 #[repr(C)]
 #[derive(Clone, Copy)]
@@ -93,6 +112,15 @@ pub(crate) const UNSEEN: Seen = Seen {
     output: 0,
     verdicts: 0,
     end: 0,
+};
+
+/// What is told of no place.
+pub(crate) const NOWHERE: ToldPlace = ToldPlace {
+    size: PLACE_SIZE,
+    class: 0,
+    method: 0,
+    descriptor: 0,
+    offset: 0,
 };
 
 /// What is told of an accepted file.
@@ -143,6 +171,19 @@ pub(crate) fn seen_of(shown: &Observation<'_>) -> Seen
         output: shown.output.len(),
         verdicts: shown.verdicts.len(),
         end,
+    }
+}
+
+/// A place as it is told.
+pub(crate) fn told_place(place: ThrowPlace<'_>) -> ToldPlace
+    ensures { IsPlaceTold result (seen_place place.entry) }
+{
+    ToldPlace {
+        size: PLACE_SIZE,
+        class: place.class.len(),
+        method: place.method.len(),
+        descriptor: place.descriptor.len(),
+        offset: place.offset,
     }
 }
 

@@ -1,16 +1,21 @@
 -- What a job does to what a handle holds.
 use Rattle.std.specs.Prelude.{◌≡◌, ℕ, ◌⊎◌, List, map, take, drop}
 use Rattle.jv_limits.specs.Bytes.{bytes_of}
+use Rattle.jv_meaning_machine.specs.State.{ThrowPlace}
 use Rattle.jv_meaning_machine.specs.Start.{Budget}
 use Rattle.jv_meaning_machine.specs.Alone.{GuestFiles}
 use Rattle.jv_host.specs.Host.{Admission}
 use Rattle.libjvhost.specs.Codes.{ok, host_memory, library_broken}
-use Rattle.libjvhost.specs.Told.{AreNumbers, budget_told, files_told, told_verdict}
-use Rattle.libjvhost.specs.Calls.{Admits, Turns, Runs, Feeds, Observes, Copies, TellsVerdict, end_class, last_class}
+use Rattle.libjvhost.specs.Told.{AreNumbers, IsPlaceTold, budget_told, files_told, place_names, told_verdict}
+use Rattle.libjvhost.specs.Calls.{Admits, Turns, Runs, Feeds, Observes, Copies, Places, TellsVerdict, end_class, last_class}
 use Rattle.libjvhost.specs.Calls.{IsAdmitAnswer, IsBrokenBeside, IsCheckAnswer, IsJudged, StandsBeside}
 use Rattle.libjvhost.specs.declared.jobs.Job.{Job}
 use Rattle.libjvhost.specs.declared.jobs.Job.TheVariants as jobs
 use Rattle.libjvhost.specs.declared.done.Done.{Done}
+
+-- the place of the last throw in numbers, and its names
+abbrev pub IsPlaceIn : Done → ThrowPlace → Type 0
+IsPlaceIn done p = IsPlaceTold done.place p × (done.bytes.items ≡ place_names p)
 
 -- verdicts, beside a library of these files
 abbrev pub AreToldBeside : (library files : List (List ℕ)) → Done → Type 0
@@ -42,6 +47,7 @@ Does (jobs.Output id from most) library old new done =
 Does (jobs.Last id) library old new done = Copies id.0 old new done.code (λ o. done.bytes.items ≡ last_class o.last)
 Does (jobs.EndClass id) library old new done = Copies id.0 old new done.code (λ o. done.bytes.items ≡ end_class o.end)
 Does (jobs.Verdict id file) library old new done = TellsVerdict id.0 file old new done.code done.verdict
+Does (jobs.Place id) library old new done = Places id.0 old new done.code (IsPlaceIn done)
 Does (jobs.Check files room) library old new done = (new ≡ old) × ChecksSo library (map bytes_of files.now) room done
 Does (jobs.Judge guest n room) library old new done =
     (new ≡ old) × JudgesSo (files_told library guest) (budget_told guest) n room done

@@ -72,6 +72,7 @@ no_trace κ (jobs.Output id from most) f = tt
 no_trace κ (jobs.Last id) f = tt
 no_trace κ (jobs.EndClass id) f = tt
 no_trace κ (jobs.Verdict id file) f = tt
+no_trace κ (jobs.Place id) f = tt
 no_trace κ (jobs.Check files room) f = tt
 no_trace κ (jobs.Judge guest n room) f = tt
 
