@@ -18,7 +18,8 @@ use Rattle.jv_program_run.specs.Guests.{NamedGuest}
 use Rattle.jv_program_run.specs.declared.brought.Brought.{Brought}
 use Rattle.jv_program_base.specs.declared.outcome.Outcome.{Outcome}
 use Rattle.jv_program_base.specs.Outcome.{raw_bytes}
-use Rattle.jv_program_run.specs.Outcome.{AreAllowed, IsRunAlone, IsRunOutcome, IsToldOf, WereNeeded}
+use Rattle.jv_program_run.specs.Outcome.{AreAllowed, IsRunAlone, IsRunOutcome, IsToldOf, WereNeeded, tells_places}
+use Rattle.jv_program_run.specs.Instruction.{IsInstructionOfThrow}
 use Rattle.jv_program_run.specs.Json.{run_report}
 use Rattle.jv_program_run.specs.Report.{Told, is_running, raw_output, run_status}
 use Rattle.jv_program_run.specs.Inside.Brought.{named_guest_of}
@@ -62,30 +63,32 @@ module _ (one : ShowsOneThing) where
 
   -- what is told of the guests of a host that has run
   told : (s : RunSettings) (guests : List NamedGuest) (before after : Option (List ℕ)) (host : List Admission) (place : ℕ) (named : NamedGuest) (t : Told)
-      (ran : HasRun s guests before after host) → slice_get guests place ≡ Some named → IsReportOn guests host place t → IsToldOf s ran.feeds ran.rounds place named t
+      (ran : HasRun s guests before after host) → slice_get guests place ≡ Some named → IsReportOn (tells_places s) guests host place t → IsToldOf s ran.feeds ran.rounds place named t
   told s guests before after host place named t ran found report =
       let b = budget_of s.budget in
       let same : report.named ≡ named = some_same report.named named (sym report.found ∙ found) in
       let start : slice_get ran.start place ≡ Some (at_start b named) =
       ap (λ (gs : List Admission). slice_get gs place) ran.started ∙ found_in_map (at_start b) guests place named found in
       let now = ran.played.each place (at_start b named) start in
-      let a = report.shown.guest in
-      let it : now.0 ≡ a = some_same now.0 a (sym now.1 ∙ report.shown.found) in
+      let a = report.is.shown.guest in
+      let it : now.0 ≡ a = some_same now.0 a (sym now.1 ∙ report.is.shown.found) in
       let guest : a.guest ≡ named.guest = sym (ap (λ (x : Admission). x.guest) it) ∙ now.2.guest in
       let budget : a.budget ≡ b = sym (ap (λ (x : Admission). x.budget) it) ∙ now.2.budget in
       let played : HasPlayed s.quantum ran.rounds a = subst (λ (x : Admission). HasPlayed s.quantum ran.rounds x) it now.2.played in
       record {
-        number = report.number;
-        word = report.word ∙ ap (λ (x : NamedGuest). x.word) same;
-        names = report.names ∙ ap (λ (x : NamedGuest). x.names) same;
+        number = report.is.number;
+        word = report.is.word ∙ ap (λ (x : NamedGuest). x.word) same;
+        names = report.is.names ∙ ap (λ (x : NamedGuest). x.names) same;
         fits = λ some.
-            let fed = ran.fed place a report.shown.found in
-            let few = ran.fits place a report.shown.found (λ none. some (sym fed ∙ none)) in
+            let fed = ran.fed place a report.is.shown.found in
+            let few = ran.fits place a report.is.shown.found (λ none. some (sym fed ∙ none)) in
             let brought : length a.guest.input ≡ length named.guest.input = ap (λ (g : GuestFiles). length g.input) guest in
             let came : fed_bytes a.feeds ≡ fed_bytes (feeds_to s.stdin ran.feeds place) = ap fed_bytes fed in
             let count = count_of_bytes (feeds_to s.stdin ran.feeds place) in
             omega (arith, few, brought, came, count);
-        seen = shown_alone s.quantum ran.rounds a t.seen named.guest b (feeds_to s.stdin ran.feeds place) guest budget (ran.fed place a report.shown.found) played report.shown.alone;
+        seen = shown_alone s.quantum ran.rounds a t.seen named.guest b (feeds_to s.stdin ran.feeds place) guest budget (ran.fed place a report.is.shown.found) played report.is.shown.alone;
+        instruction = λ places.
+            subst (λ (x : NamedGuest). IsInstructionOfThrow x.guest.files t.seen t.in_file.instruction) same (report.is.instruction places);
       }
 
   -- a guest that is over isn't told to run
@@ -109,26 +112,26 @@ module _ (one : ShowsOneThing) where
       ∙ none_told all (λ place other found. each (suc place) other found)
 
   -- a guest that took more steps is told to have taken more
-  told_at : (n before : ℕ) (guests : List NamedGuest) (host : List Admission) (count : ℕ) (all : List Told) → AreReportsOn guests host count all
+  told_at : (n before : ℕ) (places : Bool) (guests : List NamedGuest) (host : List Admission) (count : ℕ) (all : List Told) → AreReportsOn places guests host count all
       → length host ≡ count → (place : ℕ) (a : Admission) → slice_get host place ≡ Some a → n * before < a.steps → WereNeeded n (suc before) all
-  told_at n before guests host count all reports same place a found least =
+  told_at n before places guests host count all reports same place a found least =
       let there : place < length host = within host place a found in
       let many = reports.many in
       let it = some_in all place (omega (arith, there, many, same)) in
-      let shown = (reports.each place it.0 it.1).shown in
+      let shown = (reports.each place it.0 it.1).is.shown in
       let who : shown.guest ≡ a = some_same shown.guest a (sym shown.found ∙ found) in
       let steps : it.0.seen.steps ≡ shown.guest.steps = ap (λ (o : Observed). o.steps) shown.alone.shown in
       let taken : shown.guest.steps ≡ a.steps = ap (λ (x : Admission). x.steps) who in
       (place, it.0, it.1, omega (arith, least, steps, taken))
 
-  were_needed : (n rounds : ℕ) (guests : List NamedGuest) (host : List Admission) (count : ℕ) (all : List Told) → AreReportsOn guests host count all
+  were_needed : (n rounds : ℕ) (places : Bool) (guests : List NamedGuest) (host : List Admission) (count : ℕ) (all : List Told) → AreReportsOn places guests host count all
       → length host ≡ count → SomeWent n rounds host → WereNeeded n rounds all
-  were_needed n zero guests host count all reports same went = tt
-  were_needed n (suc before) guests host count all reports same went = told_at n before guests host count all reports same went.0 went.1 went.2 went.3
+  were_needed n zero places guests host count all reports same went = tt
+  were_needed n (suc before) places guests host count all reports same went = told_at n before places guests host count all reports same went.0 went.1 went.2 went.3
 
   -- what is said of the guests of such a host
   pub said : {E : Type 0} (s : RunSettings) (brought : List Brought) (host : List Admission) (all : List Told)
-      → AreAllowed (budget_of s.budget) (map named_guest_of brought) (length brought) → AreReportsOn (map named_guest_of brought) host (length brought) all
+      → AreAllowed (budget_of s.budget) (map named_guest_of brought) (length brought) → AreReportsOn (tells_places s) (map named_guest_of brought) host (length brought) all
       → {lent : List Told} → lent ≡ all → (result : Result Outcome E) → IfOk result (λ outcome. string_bytes outcome.report ≡ run_report s.json s.places lent)
       → IfOk result (λ outcome. raw_bytes outcome ≡ raw_output s.raw lent) → IfOk result (λ outcome. outcome.status ≡ run_status lent)
       → IfOk result (λ outcome. (before after : Option (List ℕ)) → HasRun s (map named_guest_of brought) before after host
@@ -146,9 +149,9 @@ module _ (one : ShowsOneThing) where
     each = λ place named t found there. told s (map named_guest_of brought) before after host place named t ran found (reports.each place t there);
     full = λ early.
         ap (λ (b : Bool). cond b 5 0)
-        (none_told all (λ place t found. is_over host place t (ran.full early) (reports.each place t found).shown));
+        (none_told all (λ place t found. is_over host place t (ran.full early) (reports.each place t found).is.shown));
     needed = λ some.
-        were_needed s.quantum ran.rounds (map named_guest_of brought) host (length brought) all reports (all_there s brought before after host ran) (ran.needed some);
+        were_needed s.quantum ran.rounds (tells_places s) (map named_guest_of brought) host (length brought) all reports (all_there s brought before after host ran) (ran.needed some);
     report = subst (λ (ts : List Told). string_bytes outcome.report ≡ run_report s.json s.places ts) same report;
     raw = subst (λ (ts : List Told). raw_bytes outcome ≡ raw_output s.raw ts) same raw;
     status = subst (λ (ts : List Told). outcome.status ≡ run_status ts) same status;

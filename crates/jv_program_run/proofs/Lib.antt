@@ -11,5 +11,6 @@ pub mod Ran
 pub mod Read
 pub mod ReadBehind
 pub mod Reports
+pub mod Shown
 pub mod Turns
 pub mod WhatWasRead

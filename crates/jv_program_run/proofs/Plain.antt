@@ -6,8 +6,8 @@ use Rattle.jv_meaning_machine.specs.State.{ThrowPlace, End}
 use Rattle.jv_meaning_machine.specs.State.End.{Running, Returned, Threw, NoMain}
 use Rattle.jv_json.specs.Members.{with_bytes, with_number, with_text}
 use Rattle.jv_json.proofs.Plain.{ArePlain, IsPlain, bytes_plain, number_plain, put_plain, text_plain, with_files_plain}
-use Rattle.jv_program_run.specs.Json.{guest_members, told_value, place_members, with_ending, with_last, with_line, with_place}
-use Rattle.jv_program_run.specs.Report.{Told}
+use Rattle.jv_program_run.specs.Json.{guest_members, told_value, place_members, with_ending, with_instruction, with_last, with_line, with_place}
+use Rattle.jv_program_run.specs.Report.{PlaceInFile, Told}
 
 last_plain : (last : Option (List ℕ)) (before : Members) → ArePlain before → ArePlain (with_last last before)
 last_plain None before are = are
@@ -25,10 +25,16 @@ line_plain : (line : Option ℕ) (before : Members) → ArePlain before → AreP
 line_plain None before are = are
 line_plain (Some n) before are = number_plain (codes "line") n before are
 
-place_plain : (place : Option ThrowPlace) (line : Option ℕ) (before : Members) → ArePlain before → ArePlain (with_place place line before)
-place_plain None line before are = are
-place_plain (Some p) line before are =
-    put_plain (codes "place") (object (with_line line (place_members p))) before (line_plain line (place_members p) (members_plain p)) are
+instruction_plain : (text : Option (List ℕ)) (before : Members) → ArePlain before → ArePlain (with_instruction text before)
+instruction_plain None before are = are
+instruction_plain (Some text) before are = text_plain (codes "instruction") text before are
+
+place_plain : (place : Option ThrowPlace) (in_file : PlaceInFile) (before : Members) → ArePlain before → ArePlain (with_place place in_file before)
+place_plain None in_file before are = are
+place_plain (Some p) in_file before are =
+    let line = with_line in_file.line (place_members p) in
+    put_plain (codes "place") (object (with_instruction in_file.instruction line)) before
+    (instruction_plain in_file.instruction line (line_plain in_file.line (place_members p) (members_plain p))) are
 
 ending_plain : (end : End) (before : Members) → ArePlain before → ArePlain (with_ending end before)
 ending_plain Running before are = text_plain (codes "end") (codes "Running") before are
@@ -48,10 +54,10 @@ told_plain t =
     let steps = with_number (codes "steps") t.seen.steps (guest_members t) in
     let throws = with_number (codes "throws") t.seen.throws steps in
     let last = with_last t.seen.last throws in
-    let place = with_place t.seen.place t.line last in
+    let place = with_place t.seen.place t.in_file last in
     ending_plain t.seen.end (with_bytes (codes "output") t.seen.output place)
     (bytes_plain (codes "output") t.seen.output place
-    (place_plain t.seen.place t.line last
+    (place_plain t.seen.place t.in_file last
     (last_plain t.seen.last throws
     (number_plain (codes "throws") t.seen.throws steps (number_plain (codes "steps") t.seen.steps (guest_members t) (guest_plain t))))))
 

@@ -20,16 +20,16 @@ any_told_runs [] = refl
 any_told_runs (r ∷ reports) = ap (λ (b : Bool). is_running (seen_end r.seen.end) || b) (any_told_runs reports)
 
 -- one report more
-pub reports-more : (guests : List NamedGuest) (host : List Admission) (k : ℕ) (told : List Told) (t : Told) → AreReportsOn guests host k told → IsReportOn guests host k t
-    → AreReportsOn guests host (k + 1) (told ++ t ∷ [])
-reports-more guests host k told t before last =
+pub reports-more : (places : Bool) (guests : List NamedGuest) (host : List Admission) (k : ℕ) (told : List Told) (t : Told) → AreReportsOn places guests host k told
+    → IsReportOn places guests host k t → AreReportsOn places guests host (k + 1) (told ++ t ∷ [])
+reports-more places guests host k told t before last =
     record {
       many = length-more told t ∙ ap (λ (n : ℕ). n + 1) before.many;
       each = λ place other found. elim (pushed told t place other found) [
         | inl h ↦ before.each place other h.1
         | inr h ↦
             let here : k ≡ place = sym (h.0 ∙ before.many) in
-            subst (λ (n : ℕ). IsReportOn guests host n other) here (subst (λ (x : Told). IsReportOn guests host k x) (sym h.1) last)
+            subst (λ (n : ℕ). IsReportOn places guests host n other) here (subst (λ (x : Told). IsReportOn places guests host k x) (sym h.1) last)
       ];
     }
 

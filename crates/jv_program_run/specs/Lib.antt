@@ -1,5 +1,6 @@
 pub mod Feeding
 pub mod Guests
+pub mod Instruction
 pub mod Json
 pub mod Inside
 pub mod Named

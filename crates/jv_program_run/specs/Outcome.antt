@@ -1,5 +1,5 @@
 -- What the program says of the guests of folders (own).
-use Rattle.std.specs.Prelude.{◌≡◌, ◌≢◌, ⊤, Option, Some, None, ℕ, zero, suc, ◌+◌, ◌-◌, ◌*◌, ◌<◌, ◌≤◌, List, [], length, slice_get, string_bytes}
+use Rattle.std.specs.Prelude.{◌≡◌, ◌≢◌, ⊤, Bool, ◌||◌, IsTrue, Option, Some, None, ℕ, zero, suc, ◌+◌, ◌-◌, ◌*◌, ◌<◌, ◌≤◌, List, [], length, slice_get, string_bytes}
 use Rattle.jv_meaning_machine.specs.State.End.{Running}
 use Rattle.jv_meaning_machine.specs.Start.{Budget}
 use Rattle.jv_meaning_machine.specs.Alone.{GuestFiles, Feed}
@@ -15,6 +15,7 @@ use Rattle.jv_program_base.specs.Outcome.{raw_bytes}
 use Rattle.jv_program_run.specs.declared.settings.RunSettings.{RunSettings}
 use Rattle.jv_program_run.specs.Feeding.{AreFeedsFrom, CameInTime, IsRunningAlone, IsTooLong, bytes_of_feeds, feeds_to}
 use Rattle.jv_program_run.specs.Guests.{NamedGuest}
+use Rattle.jv_program_run.specs.Instruction.{IsInstructionOfThrow}
 use Rattle.jv_program_run.specs.Json.{run_report}
 use Rattle.jv_program_run.specs.Report.{Told, raw_output, run_status}
 
@@ -42,13 +43,19 @@ WereNeeded n (suc before) told = (place : ℕ) × (t : Told) × (slice_get told 
 abbrev pub FitsInput : GuestFiles → List Feed → Type 0
 FitsInput g feeds = feeds ≢ [] → length g.input + length (bytes_of_feeds feeds) ≤ 16777216
 
--- What is told of the guest at a place: its number, its folder's word, its files' names, and what that guest shows alone.
+-- the report has places
+abbrev pub tells_places : RunSettings → Bool
+tells_places s = s.json || s.places
+
+-- What is told of the guest at a place: its number, its folder's word, its files' names, and what that guest shows alone; and the
+-- instruction of its last throw, where places are told.
 pub record IsToldOf (s : RunSettings) (feeds : List Feed) (rounds place : ℕ) (named : NamedGuest) (told : Told) : Type 0 where
   pub number : told.number ≡ place + 1
   pub word : told.word ≡ named.word
   pub names : told.names ≡ named.names
   pub fits : FitsInput named.guest (feeds_to s.stdin feeds place)
   pub seen : IsRunAlone named.guest (budget_of s.budget) (feeds_to s.stdin feeds place) s.quantum rounds told.seen
+  pub instruction : IsTrue (tells_places s) → IsInstructionOfThrow named.guest.files told.seen told.in_file.instruction
 
 -- Guests within the limits had rounds of turns: all of them, or as many as there were until none ran, and no more. Of input with these
 -- bytes before and after, what was read was fed to the one guest that is fed. The report tells so of each guest, in JSON or not; in its

@@ -9,14 +9,20 @@ use Rattle.jv_meaning_machine.specs.Observation.{Observed}
 use Rattle.jv_program_base.specs.Escape.{escaped_text}
 use Rattle.jv_program_base.specs.Verdict.{verdict_text}
 
--- What is told of a guest: its number, the word for its folder, the names of its class files, and what it showed; and the line of source
--- where the last throw was, as a file of its may say it (4.7.12), which no definition here speaks of.
+-- What a guest's files say of the place of its last throw, where that is told: the line of source, as a LineNumberTable may say it
+-- (4.7.12), which no definition here speaks of; and the instruction there, as text.
+pub record PlaceInFile : Type 0 where
+  pub line : Option ℕ
+  pub instruction : Option (List ℕ)
+
+-- What is told of a guest: its number, the word for its folder, the names of its class files, what it showed, and what its files say of
+-- the place of its last throw.
 pub record Told : Type 0 where
   pub number : ℕ
   pub word : List ℕ
   pub names : List (List ℕ)
   pub seen : Observed
-  pub line : Option ℕ
+  pub in_file : PlaceInFile
 
 -- the line of a class file
 abbrev pub verdict_line : List ℕ → Verdict → List ℕ
@@ -39,16 +45,20 @@ place_text p =
 
 abbrev pub line_text : Option ℕ → List ℕ
 line_text None = []
-line_text (Some line) = codes " line " ++ decimal line
+line_text (Some line) = codes ", line " ++ decimal line
 
-abbrev pub at_text : Option ThrowPlace → (line : Option ℕ) → List ℕ
-at_text None line = []
-at_text (Some p) line = codes " at " ++ place_text p ++ line_text line
+abbrev pub shown_text : Option (List ℕ) → List ℕ
+shown_text None = []
+shown_text (Some instruction) = codes ": " ++ instruction
 
--- how often something was thrown, and of what was thrown last the class, and the place and the line where these are told
-abbrev pub throws_text : ℕ → Option (List ℕ) → Option ThrowPlace → (line : Option ℕ) → List ℕ
-throws_text count None place line = decimal count
-throws_text count (Some name) place line = decimal count ++ codes " last " ++ escaped_text name ++ at_text place line
+abbrev pub at_text : Option ThrowPlace → PlaceInFile → List ℕ
+at_text None in_file = []
+at_text (Some p) in_file = codes " at " ++ place_text p ++ line_text in_file.line ++ shown_text in_file.instruction
+
+-- how often something was thrown, and of what was thrown last the class, and the place and what is said of it where these are told
+abbrev pub throws_text : ℕ → Option (List ℕ) → Option ThrowPlace → PlaceInFile → List ℕ
+throws_text count None place in_file = decimal count
+throws_text count (Some name) place in_file = decimal count ++ codes " last " ++ escaped_text name ++ at_text place in_file
 
 -- what a guest wrote; with nothing, no space follows the colon
 unfoldable pub output_text : List ℕ → List ℕ
@@ -71,7 +81,8 @@ told_text places told =
     labelled_line (codes "guest ") (heading_text told.number told.word)
     ++ verdict_lines told.names told.seen.verdicts
     ++ labelled_line (codes "  steps ") (decimal told.seen.steps)
-    ++ labelled_line (codes "  throws ") (throws_text told.seen.throws told.seen.last (if places then told.seen.place else None) told.line)
+    ++ labelled_line (codes "  throws ")
+    (throws_text told.seen.throws told.seen.last (if places then told.seen.place else None) told.in_file)
     ++ labelled_line (codes "  output ") (output_text told.seen.output)
     ++ labelled_line (codes "  end ") (ending_text told.seen.end)
 

@@ -4,10 +4,10 @@ ghost use Rattle.std.specs.Option.{option_map};
 ghost use Rattle.serde_json.specs.View.{members_view, view};
 ghost use Rattle.jv_host.specs.Showing.{bytes_seen, observed_of, seen_end, seen_place};
 ghost use Rattle.jv_json.specs.Members.{with_number};
-ghost use Rattle.jv_program_run.specs.Inside.Play.{told_of};
-ghost use Rattle.jv_program_run.specs.Json.{guest_members, place_members, run_report, told_value, with_ending, with_last, with_line, with_place, with_seen};
+ghost use Rattle.jv_program_run.specs.Inside.Play.{in_file_of, told_of};
+ghost use Rattle.jv_program_run.specs.Json.{guest_members, place_members, run_report, told_value, with_ending, with_instruction, with_last, with_line, with_place, with_seen};
 
-use crate::report::{Report, Reports};
+use crate::report::{PlaceInFile, Report, Reports};
 use jv_host::{GuestEnd, Observation, ThrowPlace};
 use jv_json::{json_lines, put_bytes, put_files, put_number, put_text};
 use serde_json::{Map, Value};
@@ -54,20 +54,49 @@ fn put_line(
     }
 }
 
-/// Puts where the last object was thrown, where that was in a method.
+/// Puts the instruction at a place, where there is one.
+fn put_instruction(
+    members: &mut Map<String, Value>,
+    alloc: Global,
+    instruction: &Option<String>,
+) -> Result<(), AllocError>
+    ensures { OnOk result (members_view members.new.entries
+        ≡ with_instruction (option_map string_bytes instruction.now) (members_view members.old.entries)) }
+{
+    match instruction {
+        Some(text) => put_text(members, alloc, "instruction", text.as_str()),
+        None => Ok(()),
+    }
+}
+
+/// The members of a place, and of what is said of it.
+fn members_of_place(
+    alloc: Global,
+    place: ThrowPlace<'_>,
+    in_file: &PlaceInFile,
+) -> Result<Map<String, Value>, AllocError>
+    ensures { IfOk result (λ members. members_view members.entries ≡ with_instruction (in_file_of in_file.now).instruction
+        (with_line (in_file_of in_file.now).line (place_members (seen_place place.entry)))) }
+{
+    let mut members = place_members(alloc, place)?;
+    put_line(&mut members, alloc, in_file.line)?;
+    put_instruction(&mut members, alloc, &in_file.instruction)?;
+    Ok(members)
+}
+
+/// Puts where the last object was thrown, where that was in a method, and what is said of the place.
 fn put_place(
     members: &mut Map<String, Value>,
     alloc: Global,
     place: Option<ThrowPlace<'_>>,
-    line: Option<u16>,
+    in_file: &PlaceInFile,
 ) -> Result<(), AllocError>
     ensures { OnOk result (members_view members.new.entries
-        ≡ with_place (option_map seen_place place.entry) line (members_view members.old.entries)) }
+        ≡ with_place (option_map seen_place place.entry) (in_file_of in_file.now) (members_view members.old.entries)) }
 {
     match place {
         Some(place) => {
-            let mut its = place_members(alloc, place)?;
-            put_line(&mut its, alloc, line)?;
+            let its = members_of_place(alloc, place, in_file)?;
             serde_json::put(members, alloc, "place", Value::Object(its))
         }
         None => Ok(()),
@@ -98,16 +127,16 @@ fn put_counts(
     members: &mut Map<String, Value>,
     alloc: Global,
     seen: &Observation<'_>,
-    line: Option<u16>,
+    in_file: &PlaceInFile,
 ) -> Result<(), AllocError>
     ensures { OnOk result (members_view members.new.entries
-        ≡ with_place (observed_of seen.now).place line (with_last (observed_of seen.now).last (with_number (codes "throws") seen.now.throws
-        (with_number (codes "steps") seen.now.steps (members_view members.old.entries))))) }
+        ≡ with_place (observed_of seen.now).place (in_file_of in_file.now) (with_last (observed_of seen.now).last
+        (with_number (codes "throws") seen.now.throws (with_number (codes "steps") seen.now.steps (members_view members.old.entries))))) }
 {
     put_number(members, alloc, "steps", seen.steps)?;
     put_number(members, alloc, "throws", seen.throws)?;
     put_last(members, alloc, seen.last)?;
-    put_place(members, alloc, seen.place, line)
+    put_place(members, alloc, seen.place, in_file)
 }
 
 /// Puts what a guest showed, but for its verdicts.
@@ -115,11 +144,12 @@ fn put_seen(
     members: &mut Map<String, Value>,
     alloc: Global,
     seen: &Observation<'_>,
-    line: Option<u16>,
+    in_file: &PlaceInFile,
 ) -> Result<(), AllocError>
-    ensures { OnOk result (members_view members.new.entries ≡ with_seen (observed_of seen.now) line (members_view members.old.entries)) }
+    ensures { OnOk result (members_view members.new.entries
+        ≡ with_seen (observed_of seen.now) (in_file_of in_file.now) (members_view members.old.entries)) }
 {
-    put_counts(members, alloc, seen, line)?;
+    put_counts(members, alloc, seen, in_file)?;
     put_bytes(members, alloc, "output", seen.output)?;
     put_ending(members, alloc, seen.end)
 }
@@ -140,7 +170,7 @@ fn told_value(alloc: Global, report: &Report<'_>) -> Result<Value, AllocError>
     ensures { IfOk result (λ value. view value ≡ told_value (told_of report.now)) }
 {
     let mut members = guest_members(alloc, report)?;
-    put_seen(&mut members, alloc, &report.seen, report.line)?;
+    put_seen(&mut members, alloc, &report.seen, &report.in_file)?;
     Ok(Value::Object(members))
 }
 

@@ -3,6 +3,7 @@
 
 mod brought;
 mod feeding;
+mod in_file;
 mod input;
 mod json;
 mod named;
@@ -14,6 +15,6 @@ mod settings;
 
 pub use jv_host::{Budget, Progress, Unwatched, Watch};
 pub use named::run_named;
-pub use report::Report;
+pub use report::{PlaceInFile, Report};
 pub use running::run_folders;
 pub use settings::RunSettings;

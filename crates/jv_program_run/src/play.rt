@@ -5,20 +5,18 @@ ghost use Rattle.jv_host.specs.Started.{budget_of};
 ghost use Rattle.jv_host.specs.Calls.{IsShown, NoneRuns};
 ghost use Rattle.jv_program_run.specs.Feeding.{is_no_guest};
 ghost use Rattle.jv_program_run.specs.Inside.Brought.{named_guest_of};
-ghost use Rattle.jv_program_run.specs.Inside.Play.{AreReportsOn, HasRun, IsAdmitFailure, at_start, told_of};
+ghost use Rattle.jv_program_run.specs.Inside.Play.{AreReportsOn, HasRun, IsAdmitFailure, IsReportOf, at_start, told_of};
 ghost use Rattle.jv_program_run.specs.Inside.Turns.{AreAtStart, NoneFed, PlayedSince, SomeWent};
 ghost use Rattle.jv_program_run.specs.Outcome.{AreAllowed, IsFeedingFailure, IsGuestsFailure};
 
 use crate::brought::{Brought, guest_files};
 use crate::feeding::run_fed;
+use crate::in_file::in_file;
 use crate::report::Report;
 use crate::rounds::run_rounds;
 use crate::settings::RunSettings;
 use jv_host::{Budget, GuestId, Host, Observation, Watch};
-use jv_lines::line_of;
 use jv_meaning_machine::shows_one_thing;
-use jv_meaning_typing::Verdict;
-use jv_meaning_world::LoadVerdict;
 use jv_program_base::Failure;
 use jv_store::Cells;
 use std::alloc::{AllocError, Global};
@@ -112,90 +110,45 @@ pub(crate) fn observation_of<'h>(host: &'h Host<'_, Cells>, id: GuestId) -> Obse
     seen
 }
 
-/// Whether a file with this verdict holds a class that others can name.
-fn is_there(verdict: Verdict) -> bool {
-    !matches!(
-        verdict,
-        Verdict::Refused(
-            LoadVerdict::Version
-                | LoadVerdict::Format
-                | LoadVerdict::Unsupported
-                | LoadVerdict::Reserved
-                | LoadVerdict::Duplicate
-        )
-    )
-}
-
-/// The line of source of the place of the last throw, where the file of its class says it. Nothing is promised of it.
-fn line_at(alloc: Global, guest: &Brought<'_>, seen: &Observation<'_>) -> Option<u16> {
-    let place = seen.place?;
-    let Ok(offset) = u16::try_from(place.offset) else {
-        return None;
-    };
-    for (file, verdict) in guest.files.as_slice().iter().zip(seen.verdicts) {
-        if is_there(*verdict) {
-            let line = line_of(
-                alloc,
-                file,
-                place.class,
-                place.method,
-                place.descriptor,
-                offset,
-            );
-            if line.is_some() {
-                return line;
-            }
-        }
-    }
-    None
-}
-
-/// The report on a guest of the host, with the line of its last throw or without.
+/// The report on a guest of the host, with what its files say of the place of its last throw or without.
 fn report_on<'h>(
     alloc: Global,
     host: &'h Host<'_, Cells>,
     guest: &'h Brought<'_>,
     place: u32,
-    lines: bool,
-) -> Report<'h>
+    places: bool,
+) -> Result<Report<'h>, AllocError>
     requires few { place < 64 }
     requires there { IsSome (slice_get host.now place) }
-    ensures number { result.number ≡ place + 1 }
-    ensures word { result.word.now ≡ (named_guest_of guest.now).word }
-    ensures names { (told_of result).names ≡ (named_guest_of guest.now).names }
-    ensures shown { IsShown host.now place (told_of result).seen }
+    ensures { IfOk result (λ report. IsReportOf places (named_guest_of guest.now) host.now place (told_of report)) }
 {
     let seen = observation_of(host, GuestId(place));
-    let line = if lines {
-        line_at(alloc, guest, &seen)
-    } else {
-        None
-    };
-    Report {
+    let in_file = in_file(alloc, guest, &seen, places)?;
+    Ok(Report {
         number: place + 1,
         word: guest.word,
         names: guest.names.as_slice(),
         seen,
-        line,
-    }
+        in_file,
+    })
 }
 
-/// The reports on the guests of a host, with the lines of last throws or without.
+/// The reports on the guests of a host, with what their files say of the places of last throws or without.
 pub(crate) fn reports_on<'h>(
     alloc: Global,
     host: &'h Host<'_, Cells>,
     guests: &'h [Brought<'_>],
-    lines: bool,
+    places: bool,
 ) -> Result<Vec<Report<'h>>, AllocError>
     requires few { length guests.now ≤ 64 }
     requires there { length host.now ≡ length guests.now }
     ensures { IfOk result (λ reports.
-        AreReportsOn (map named_guest_of guests.now) host.now (length guests.now) (map told_of reports.items)) }
+        AreReportsOn places (map named_guest_of guests.now) host.now (length guests.now) (map told_of reports.items)) }
 {
     let mut reports = Vec::new(alloc);
     for place in 0..guests.len() {
-        let report = report_on(alloc, host, &guests[place], place as u32, lines);
-        reports.push(report)?;
+        let report = report_on(alloc, host, &guests[place], place as u32, places)?;
+        reports.push(report).map_err(AllocError::from)?;
     }
     Ok(reports)
 }

@@ -1,20 +1,29 @@
 //! The report on guests.
-ghost use Rattle.std.specs.Prelude.{◌≡◌, None, Some, if◌then◌else◌, map};
+ghost use Rattle.std.specs.Prelude.{◌≡◌, None, Some, if◌then◌else◌, map, string_bytes};
 ghost use Rattle.std.specs.List.{list_any};
 ghost use Rattle.std.specs.Option.{option_map};
 ghost use Rattle.jv_host.specs.Showing.{bytes_seen, seen_end, seen_place};
 ghost use Rattle.jv_limits.specs.Bytes.{bytes_of};
-ghost use Rattle.jv_program_run.specs.Report.{at_text, ending_text, heading_text, line_text, output_text, throws_text, verdict_line, verdict_lines};
+ghost use Rattle.jv_program_run.specs.Report.{at_text, ending_text, heading_text, line_text, output_text, shown_text, throws_text, verdict_line, verdict_lines};
 ghost use Rattle.jv_program_run.specs.Report.{is_running, report_text, run_status, told_text};
-ghost use Rattle.jv_program_run.specs.Inside.Play.{told_of};
+ghost use Rattle.jv_program_run.specs.Inside.Play.{in_file_of, told_of};
 
 use jv_host::{GuestEnd, Observation, ThrowPlace};
 use jv_meaning_typing::Verdict;
 use jv_program_base::{Escaped, ShownVerdict};
 use std::fmt;
 
+/// What a guest's files say of the place of its last throw.
+#[derive(Drop)]
+pub struct PlaceInFile {
+    /// The line of source, where a file of its says it and it is told.
+    pub line: Option<u16>,
+    /// The instruction, where a file of its has it and it is told.
+    pub instruction: Option<String>,
+}
+
 /// The report on a guest.
-#[derive(Clone, Copy)]
+#[derive(Drop)]
 pub struct Report<'a> {
     /// Its number, the first's being 1.
     pub number: u32,
@@ -24,8 +33,8 @@ pub struct Report<'a> {
     pub names: &'a [&'a [u8]],
     /// What it showed.
     pub seen: Observation<'a>,
-    /// The line of source of its last throw, where a file of its says it.
-    pub line: Option<u16>,
+    /// What its files say of the place of its last throw.
+    pub in_file: PlaceInFile,
 }
 
 /// Reports, one behind the other, with the places of last throws or without.
@@ -67,11 +76,15 @@ struct Heading<'a> {
 #[derive(Clone, Copy)]
 struct Line(Option<u16>);
 
-/// Where something was thrown, where that is told, and the line of source, where there is one.
+/// The instruction at a place, where there is one.
+#[derive(Clone, Copy)]
+struct Instruction<'a>(&'a Option<String>);
+
+/// Where something was thrown, where that is told, and what is said of the place.
 #[derive(Clone, Copy)]
 struct At<'a> {
     place: Option<ThrowPlace<'a>>,
-    line: Option<u16>,
+    in_file: &'a PlaceInFile,
 }
 
 /// How often something was thrown, what was thrown last, and where, where that is told.
@@ -152,14 +165,28 @@ impl fmt::Display for Line {
 
     fn fmt<W: fmt::Write>(&self, f: &mut fmt::Formatter<W>) -> fmt::Result {
         match self.0 {
-            Some(line) => write!(f, " line {line}"),
+            Some(line) => write!(f, ", line {line}"),
+            None => Ok(()),
+        }
+    }
+}
+
+impl fmt::Display for Instruction<'_> {
+    ghost output = { λ shown. Some (shown_text (option_map string_bytes shown.0.now)) };
+
+    fn fmt<W: fmt::Write>(&self, f: &mut fmt::Formatter<W>) -> fmt::Result {
+        match self.0 {
+            Some(text) => {
+                let text = text.as_str();
+                write!(f, ": {text}")
+            }
             None => Ok(()),
         }
     }
 }
 
 impl fmt::Display for At<'_> {
-    ghost output = { λ at. Some (at_text (option_map seen_place at.place) at.line) };
+    ghost output = { λ at. Some (at_text (option_map seen_place at.place) (in_file_of at.in_file.now)) };
 
     fn fmt<W: fmt::Write>(&self, f: &mut fmt::Formatter<W>) -> fmt::Result {
         match self.place {
@@ -168,8 +195,12 @@ impl fmt::Display for At<'_> {
                 let method = Escaped(place.method);
                 let descriptor = Escaped(place.descriptor);
                 let offset = place.offset;
-                let line = Line(self.line);
-                write!(f, " at {class}.{method}:{descriptor} offset {offset}{line}")
+                let line = Line(self.in_file.line);
+                let instruction = Instruction(&self.in_file.instruction);
+                write!(
+                    f,
+                    " at {class}.{method}:{descriptor} offset {offset}{line}{instruction}"
+                )
             }
             None => Ok(()),
         }
@@ -178,7 +209,7 @@ impl fmt::Display for At<'_> {
 
 impl fmt::Display for Throws<'_> {
     ghost output = { λ throws. Some (throws_text throws.count (option_map bytes_seen throws.last)
-        (option_map seen_place throws.at.place) throws.at.line) };
+        (option_map seen_place throws.at.place) (in_file_of throws.at.in_file.now)) };
 
     fn fmt<W: fmt::Write>(&self, f: &mut fmt::Formatter<W>) -> fmt::Result {
         let count = self.count;
@@ -250,7 +281,7 @@ impl fmt::Display for ReportLines<'_> {
             last: seen.last,
             at: At {
                 place: place_told(self.places, seen.place),
-                line: report.line,
+                in_file: &report.in_file,
             },
         };
         let output = Output(seen.output);

@@ -4,7 +4,7 @@ ghost use Rattle.jv_program_base.specs.Outcome.{raw_bytes};
 ghost use Rattle.jv_program_run.specs.Feeding.{is_no_guest};
 ghost use Rattle.jv_program_run.specs.Guests.{named_guest};
 ghost use Rattle.jv_host.specs.Started.{budget_of};
-ghost use Rattle.jv_program_run.specs.Outcome.{AreAllowed, IsGuestsFailure, IsRunOutcome};
+ghost use Rattle.jv_program_run.specs.Outcome.{AreAllowed, IsGuestsFailure, IsRunOutcome, tells_places};
 ghost use Rattle.jv_program_run.specs.Json.{run_report};
 ghost use Rattle.jv_program_run.specs.Report.{raw_output, run_status};
 ghost use Rattle.jv_program_run.specs.Inside.Brought.{named_guest_of};
@@ -62,6 +62,13 @@ fn outcome_of(
     })
 }
 
+/// Whether the report has places.
+fn tells_places(settings: RunSettings) -> bool
+    ensures { result ≡ tells_places settings }
+{
+    settings.json || settings.places
+}
+
 /// What is said of the guests of a host that has run.
 fn said_of(
     alloc: Global,
@@ -78,7 +85,7 @@ fn said_of(
         → IsRunOutcome settings (map named_guest_of guests.now) before after outcome) }
 {
     shows_one_thing();
-    let reports = reports_on(alloc, host, guests, settings.json || settings.places)?;
+    let reports = reports_on(alloc, host, guests, tells_places(settings))?;
     outcome_of(alloc, reports.as_slice(), settings)
 }
 

@@ -1,5 +1,5 @@
 -- What a host comes to that runs the guests of folders.
-use Rattle.std.specs.Prelude.{◌≡◌, ◌≢◌, ℕ, ◌+◌, ◌<◌, ◌≤◌, List, [], Option, Some, map, length, slice_get}
+use Rattle.std.specs.Prelude.{◌≡◌, ◌≢◌, ℕ, ◌+◌, ◌<◌, ◌≤◌, Bool, IsTrue, List, [], Option, Some, map, option_map, length, slice_get, string_bytes}
 use Rattle.jv_meaning_machine.specs.Start.{Budget}
 use Rattle.jv_meaning_machine.specs.Alone.{Feed}
 use Rattle.jv_host.specs.Started.{budget_of}
@@ -8,13 +8,15 @@ use Rattle.jv_host.specs.Host.{Admission, input_bytes}
 use Rattle.jv_host.specs.Calls.{IsShown, NoneRuns, admission}
 use Rattle.jv_program_base.specs.declared.failure.Failure.{Failure}
 use Rattle.jv_program_base.specs.declared.failure.Failure.TheVariants.{Refused, HostMemory}
+use Rattle.jv_program_run.specs.declared.report.PlaceInFile.{PlaceInFile}
 use Rattle.jv_program_run.specs.declared.report.Report.{Report}
 use Rattle.jv_program_run.specs.declared.settings.RunSettings.{RunSettings}
 use Rattle.jv_limits.specs.Bytes.{bytes_of}
 use Rattle.jv_program_run.specs.Feeding.{AreFeedsFrom, feeds_to}
 use Rattle.jv_program_run.specs.Guests.{NamedGuest}
 use Rattle.jv_program_run.specs.Outcome.{AreAllowed, IsRefusedAmong}
-use Rattle.jv_program_run.specs.Report.{Told}
+use Rattle.jv_program_run.specs.Instruction.{IsInstructionOfThrow}
+use Rattle.jv_program_run.specs.Report.{PlaceInFile as SaidInFile, Told}
 use Rattle.jv_program_run.specs.Inside.Turns.{PlayedSince, SomeWent}
 
 -- a guest at its start
@@ -44,25 +46,33 @@ IsAdmitFailure b guests failure = ⊥
 
 -- ---- reports
 
+abbrev pub in_file_of : PlaceInFile → SaidInFile
+in_file_of found = record { line = found.line; instruction = option_map string_bytes found.instruction }
+
 abbrev pub told_of : Report → Told
 told_of report = record {
   number = report.number;
   word = report.word.now;
   names = map bytes_of report.names.now;
   seen = observed_of report.seen;
-  line = report.line;
+  in_file = in_file_of report.in_file;
 }
 
--- the report is on what the guest at a place shows
-pub record IsReportOn (guests : List NamedGuest) (host : List Admission) (place : ℕ) (told : Told) : Type 0 where
-  pub named : NamedGuest
-  pub found : slice_get guests place ≡ Some named
+-- the report is on what this guest shows, which is the one at a place, with the instruction of its last throw or without
+pub record IsReportOf (places : Bool) (named : NamedGuest) (host : List Admission) (place : ℕ) (told : Told) : Type 0 where
   pub number : told.number ≡ place + 1
   pub word : told.word ≡ named.word
   pub names : told.names ≡ named.names
   pub shown : IsShown host place told.seen
+  pub instruction : IsTrue places → IsInstructionOfThrow named.guest.files told.seen told.in_file.instruction
+
+-- on what the guest at a place shows
+pub record IsReportOn (places : Bool) (guests : List NamedGuest) (host : List Admission) (place : ℕ) (told : Told) : Type 0 where
+  pub named : NamedGuest
+  pub found : slice_get guests place ≡ Some named
+  pub is : IsReportOf places named host place told
 
 -- there are so many reports, on the first guests
-pub record AreReportsOn (guests : List NamedGuest) (host : List Admission) (count : ℕ) (told : List Told) : Type 0 where
+pub record AreReportsOn (places : Bool) (guests : List NamedGuest) (host : List Admission) (count : ℕ) (told : List Told) : Type 0 where
   pub many : length told ≡ count
-  pub each : (place : ℕ) (t : Told) → slice_get told place ≡ Some t → IsReportOn guests host place t
+  pub each : (place : ℕ) (t : Told) → slice_get told place ≡ Some t → IsReportOn places guests host place t

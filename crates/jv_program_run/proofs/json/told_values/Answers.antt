@@ -1,5 +1,5 @@
 use Rattle.std.proofs.Common.{rules, ◌≡◌, ◌∷◌, ◌++◌, []}
-use Rattle.jv_program_base.proofs.Places.{in_place}
+use Rattle.jv_program_base.proofs.Places.{item_at}
 use Rattle.jv_program_run.proofs.Reports.{pushed_value}
 use Rattle.jv_program_run.proofs.json.told_values.Goals as goal
 
@@ -9,5 +9,5 @@ loop-report-preserved c =
     let k = c.loop-report.report-index in
     let before = c.loop-report.values.items in
     let pushed : c.push.new.self.items ≡ before ++ c.in_ok-value.value ∷ [] = search rules in
-    pushed_value reports k _ before c.push.new.self.items c.in_ok-value.value (in_place reports k _ c.loop-report-test.true) pushed
+    pushed_value reports k _ before c.push.new.self.items c.in_ok-value.value (item_at reports k c.report-item.result c.loop-report-test.true c.report-item.is) pushed
     (c.in_ok-value.ensures {u = tt}) c.loop-report.invariant

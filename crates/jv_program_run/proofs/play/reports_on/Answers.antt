@@ -1,4 +1,4 @@
-use Rattle.std.proofs.Common.{map, subst, sym}
+use Rattle.std.proofs.Common.{rules, ◌≡◌, [], ◌∷◌, ◌++◌, map, subst, sym}
 use Rattle.jv_program_run.specs.Inside.Brought.{named_guest_of}
 use Rattle.jv_program_run.specs.Inside.Play.{AreReportsOn, IsReportOn, told_of}
 use Rattle.jv_program_base.proofs.Places.{found_in_map, item_at}
@@ -11,17 +11,10 @@ loop-place-preserved c =
     let guests = map named_guest_of brought in
     let k = c.loop-place.place in
     let guest = c.index-guests-place.result in
-    let r = c.report_on-report.result in
+    let r = c.in_ok-report.report in
     let found = found_in_map named_guest_of brought k guest (item_at brought k guest c.loop-place-test.true c.index-guests-place.is) in
-    let last : IsReportOn guests c.args.host.now k (told_of r) =
-    record {
-      named = named_guest_of guest;
-      found = found;
-      number = c.report_on-report.ensures.number;
-      word = c.report_on-report.ensures.word;
-      names = c.report_on-report.ensures.names;
-      shown = c.report_on-report.ensures.shown;
-    } in
-    let items = (c.in_ok-push.ensures {u = tt}).items in
-    subst (AreReportsOn guests c.args.host.now _) (sym (pushed_report c.loop-place.reports.items r c.push.new.self.items items))
-    (reports-more guests c.args.host.now k (map told_of c.loop-place.reports.items) (told_of r) c.loop-place.invariant last)
+    let last : IsReportOn c.args.places guests c.args.host.now k (told_of r) =
+    record { named = named_guest_of guest; found = found; is = c.in_ok-report.ensures {u = tt} } in
+    let items : c.push.new.self.items ≡ c.loop-place.reports.items ++ r ∷ [] = search rules in
+    subst (AreReportsOn c.args.places guests c.args.host.now _) (sym (pushed_report c.loop-place.reports.items r c.push.new.self.items items))
+    (reports-more c.args.places guests c.args.host.now k (map told_of c.loop-place.reports.items) (told_of r) c.loop-place.invariant last)

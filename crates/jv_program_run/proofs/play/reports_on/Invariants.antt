@@ -4,4 +4,4 @@ use Rattle.jv_program_run.specs.Inside.Play.{AreReportsOn, told_of}
 use Rattle.jv_program_run.proofs.play.reports_on.Given as goal
 
 abbrev pub invariant-loop-place : goal.invariant-loop-place
-invariant-loop-place l = AreReportsOn (map named_guest_of l.guests) l.host l.place (map told_of l.reports.items)
+invariant-loop-place l = AreReportsOn l.places (map named_guest_of l.guests) l.host l.place (map told_of l.reports.items)

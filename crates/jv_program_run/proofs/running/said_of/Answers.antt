@@ -1,14 +1,16 @@
-use Rattle.std.proofs.Common.{◌≡◌, ◌∙◌, ℕ, false, ap, length, map, subst, sym}
+use Rattle.std.proofs.Common.{◌≡◌, ◌∙◌, ℕ, Bool, false, ap, length, map, subst, sym}
 use Rattle.std.proofs.lemmas.List.{length-map}
 use Rattle.jv_program_run.specs.Feeding.{is_no_guest}
-use Rattle.jv_program_run.specs.Inside.Play.{told_of}
+use Rattle.jv_program_run.specs.Inside.Brought.{named_guest_of}
+use Rattle.jv_program_run.specs.Inside.Play.{AreReportsOn, told_of}
 use Rattle.jv_program_run.proofs.Alone.{all_there, said}
 use Rattle.jv_program_run.proofs.running.said_of.Goals as goal
 
 pub returns : goal.returns
 returns c =
     said c.shows_one_thing.ensures c.args.settings c.args.guests.now c.args.host.now (map told_of c.in_ok-reports.reports.items) c.requires.allowed
-    c.in_ok-reports.ensures
+    (subst (λ (places : Bool). AreReportsOn places (map named_guest_of c.args.guests.now) c.args.host.now (length c.args.guests.now)
+    (map told_of c.in_ok-reports.reports.items)) c.tells_places.ensures c.in_ok-reports.ensures)
     (ap (map told_of) c.as_slice.ensures.value) c.outcome_of.result c.outcome_of.ensures.report c.outcome_of.ensures.raw c.outcome_of.ensures.status
 
 pub outcome_of-requires : goal.outcome_of-requires

@@ -7,7 +7,7 @@ use Rattle.jv_host.specs.Showing.{bytes_seen, seen_end, seen_place}
 use Rattle.jv_program_run.specs.declared.report.ReportLines.{ReportLines}
 use Rattle.jv_limits.specs.Bytes.{bytes_of}
 use Rattle.jv_program_run.specs.Report.{ending_text, heading_text, labelled_line, output_text, throws_text, told_text, verdict_lines}
-use Rattle.jv_program_run.specs.Inside.Play.{told_of}
+use Rattle.jv_program_run.specs.Inside.Play.{in_file_of, told_of}
 use Rattle.jv_program_run.proofs.report.ReportLinesDisplay.fmt.Goals as goal
 
 -- the lines on the guest, of the report's own fields, with a place
@@ -17,7 +17,7 @@ lines_on lines place =
     labelled_line (codes "guest ") (heading_text report.number report.word.now)
     ++ verdict_lines (map bytes_of report.names.now) report.seen.verdicts.now
     ++ labelled_line (codes "  steps ") (decimal report.seen.steps)
-    ++ labelled_line (codes "  throws ") (throws_text report.seen.throws (option_map bytes_seen report.seen.last) place report.line)
+    ++ labelled_line (codes "  throws ") (throws_text report.seen.throws (option_map bytes_seen report.seen.last) place (in_file_of report.in_file))
     ++ labelled_line (codes "  output ") (output_text report.seen.output.now)
     ++ labelled_line (codes "  end ") (ending_text (seen_end report.seen.end))
 
