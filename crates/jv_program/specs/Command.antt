@@ -7,6 +7,7 @@ use Rattle.clap.specs.declared.error.kind.ErrorKind.TheVariants as kinds
 use Rattle.jv_program_base.specs.Disk.{Disk}
 use Rattle.jv_program_check.specs.Named.{IsCheckedAs, IsNamedFailure}
 use Rattle.jv_program_explain.specs.Named.{IsExplainedAs}
+use Rattle.jv_program_explain.specs.declared.settings.ExplainSettings.{ExplainSettings}
 use Rattle.jv_program_base.specs.declared.failure.Failure.{Failure}
 use Rattle.jv_program_base.specs.declared.failure.Failure.TheVariants.{OutOfMemory}
 use Rattle.jv_program_base.specs.declared.outcome.Outcome.{Outcome}
@@ -31,6 +32,9 @@ settings_of options = record {
   json = options.json;
   places = options.places;
 }
+
+abbrev pub explain_settings_of : ExplainOptions → ExplainSettings
+explain_settings_of options = record { json = options.json; links = options.links; frames = options.frames }
 
 -- ---- what there is to read
 
@@ -75,7 +79,7 @@ pub record IsExplainReport (disk : Option Disk) (line : List (List ℕ)) (before
   pub library : Option (List ℕ)
   pub names : List (List ℕ)
   pub asked : AskFor line (explain options library names)
-  pub explained : IsExplainedAs disk options.json options.links library names outcome
+  pub explained : IsExplainedAs disk (explain_settings_of options) library names outcome
   pub unread : after ≡ before
 
 -- the report is what the words ask for

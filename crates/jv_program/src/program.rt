@@ -6,8 +6,10 @@ ghost use Rattle.jv_program_base.specs.Failure.{failure_line};
 ghost use Rattle.jv_program_base.specs.declared.failure.Failure.{Failure};
 ghost use Rattle.jv_program_words.specs.Settings.{IsAskedIn, text_of};
 ghost use Rattle.jv_limits.specs.Bytes.{bytes_of};
+ghost use Rattle.jv_program_check.specs.Named.{IsNamedFailure};
+ghost use Rattle.jv_program_explain.specs.Named.{IsExplainedAs};
 ghost use Rattle.jv_program_run.specs.Named.{AreTaken, IsRunAs, IsRunFailure};
-ghost use Rattle.jv_program.specs.Command.{AskForCompany, HasEnded, IsBegun, IsReport, settings_of, streams};
+ghost use Rattle.jv_program.specs.Command.{AskForCompany, HasEnded, IsBegun, IsReport, explain_settings_of, settings_of, streams};
 ghost use Rattle.jv_program.specs.Inside.Stops.{IsCarriedOut, IsEarly};
 ghost use Rattle.jv_program.specs.Status.{IsAsked, output_line};
 ghost use Rattle.jv_program.specs.declared.stop.Stop.TheVariants.{Output, Run};
@@ -18,9 +20,9 @@ use crate::stop::{Stop, status_of, stop_of};
 use crate::written::{tell_beside, write_report};
 use jv_program_base::{Failure, Folders, Outcome};
 use jv_program_check::check_named;
-use jv_program_explain::explain_named;
+use jv_program_explain::{ExplainSettings, explain_named};
 use jv_program_run::{Budget, RunSettings, Unwatched, run_named};
-use jv_program_words::{RunOptions, Settings, settings};
+use jv_program_words::{ExplainOptions, RunOptions, Settings, settings};
 use std::alloc::Global;
 use std::hash::RandomState;
 use std::io::Read;
@@ -41,6 +43,17 @@ fn settings_of(options: RunOptions) -> RunSettings
         raw: options.raw,
         json: options.json,
         places: options.places,
+    }
+}
+
+/// The settings of an explanation with these options.
+fn explain_settings_of(options: ExplainOptions) -> ExplainSettings
+    ensures { result ≡ explain_settings_of options }
+{
+    ExplainSettings {
+        json: options.json,
+        links: options.links,
+        frames: options.frames,
     }
 }
 
@@ -92,6 +105,23 @@ fn run_for<F: Folders, I: Read, P: Company>(
     }
 }
 
+/// Explains the verdicts on files with these options.
+fn explain_for<F: Folders>(
+    alloc: Global,
+    state: RandomState,
+    options: ExplainOptions,
+    library: Option<&str>,
+    names: &[&str],
+    folders: &mut F,
+) -> Result<Outcome, Failure>
+    ensures ok { IfOk result (IsExplainedAs (F.disk folders.old) (explain_settings_of options) (text_of library.entry)
+        (map bytes_of names.now)) }
+    ensures err { IfErr result (IsNamedFailure (F.disk folders.old) (text_of library.entry) (map bytes_of names.now)) }
+{
+    let settings = explain_settings_of(options);
+    explain_named(alloc, state, settings, library, names, folders)
+}
+
 /// Makes the report that words ask for. Company is told of a run as far as they say.
 fn outcome_for<F: Folders, I: Read, P: Company>(
     alloc: Global,
@@ -121,11 +151,10 @@ fn outcome_for<F: Folders, I: Read, P: Company>(
             names.as_slice(),
             folders,
         )?),
-        Settings::Explain(options, library, names) => Ok(explain_named(
+        Settings::Explain(options, library, names) => Ok(explain_for(
             alloc,
             state,
-            options.json,
-            options.links,
+            options,
             library,
             names.as_slice(),
             folders,

@@ -1,5 +1,6 @@
 -- The frames where a method breaks a rule.
 use Rattle.std.proofs.Common.{◌≡◌, ℕ, Bool, true, false, List, [], Option, Some, None, refl}
+use Rattle.jv_class.specs.Class.{Class}
 use Rattle.jv_meaning_world.specs.FileContent.{FileContent}
 use Rattle.jv_meaning_world.specs.Numbers.{HoldsAtNumber}
 use Rattle.jv_meaning_world.specs.declared.content.Content.TheVariants.{OtherVersion, NoClassFile, MoreThanProfile, Holds}
@@ -13,14 +14,14 @@ use Rattle.jv_meaning_typing.specs.declared.verdict.VerifyFault.{VerifyFault}
 use Rattle.jv_meaning_typing.specs.declared.verdict.Verdict.{Verdict}
 use Rattle.jv_meaning_typing.specs.declared.verdict.Verdict.TheVariants.{Accepted, Refused, Verify}
 use Rattle.jv_meaning_typing.specs.Judgement.{BreaksRule, IsFirstFault, IsVerdictOfContent, WithFrames}
-use Rattle.jv_links.specs.Text.{AreLinksTold}
 use Rattle.jv_verify.specs.Before.{IsTypedTo}
 use Rattle.jv_verify.specs.Frames.{IsTypedIn}
 use Rattle.jv_verify.proofs.BrokenThere.{below_end, below_first}
 use Rattle.jv_program_explain.specs.Explain.{IsExplainedBy, IsSaid, IsVerdictTold}
 use Rattle.jv_program_explain.specs.Frames.{AreFramesShown, ShowsFrames, ShowsFramesOf}
 use Rattle.jv_explain.specs.Explained.{is_at_instruction}
-use Rattle.jv_program_explain.specs.Inside.Numbered.{StandsAt, tells_links}
+use Rattle.jv_program_explain.specs.Inside.Numbered.{StandsAt}
+use Rattle.jv_program_explain.specs.declared.settings.ExplainSettings.{ExplainSettings}
 
 -- ---- the instructions below are type safe
 
@@ -96,26 +97,20 @@ told_so world content Accepted text never h = h
 told_so world content (Verify f) text never h = h
 told_so world content (Refused w) text never h = absurd (never w refl)
 
-pub said_so : (links : Bool) (world : World) (content : FileContent) (v : Verdict) (text : List ℕ) → tells_links links v ≡ false → IsVerdictTold world content v text
-    → IsSaid links world content v text
-said_so true world content Accepted text off h = absurd cc
-said_so true world content (Refused w) text off h = h
-said_so true world content (Verify f) text off h = h
-said_so false world content Accepted text off h = h
-said_so false world content (Refused w) text off h = h
-said_so false world content (Verify f) text off h = h
+-- ---- of a file that is accepted, and of others
 
-pub links_said : (links : Bool) (world : World) (number : ℕ) (why : Option LoadVerdict) (content : FileContent) (v : Verdict) (text : List ℕ) → tells_links links v ≡ true
-    → HoldsAtNumber world number (λ l. AreLinksTold world l text) → IsVerdictOfContent world why (Some content) v → StandsAt world number content → IsSaid links world content v text
-links_said true world number why (Holds class) Accepted text on h is stands = h (loaded false class) (stands class refl)
-links_said true world number (Some w) OtherVersion Accepted text on h is stands = absurd cc
-links_said true world number (Some w) NoClassFile Accepted text on h is stands = absurd cc
-links_said true world number (Some w) MoreThanProfile Accepted text on h is stands = absurd cc
-links_said true world number None OtherVersion Accepted text on h is stands = absurd is
-links_said true world number None NoClassFile Accepted text on h is stands = absurd is
-links_said true world number None MoreThanProfile Accepted text on h is stands = absurd is
-links_said true world number why content (Refused w) text on h is stands = absurd cc
-links_said true world number why content (Verify f) text on h is stands = absurd cc
-links_said false world number why content Accepted text on h is stands = absurd cc
-links_said false world number why content (Refused w) text on h is stands = absurd cc
-links_said false world number why content (Verify f) text on h is stands = absurd cc
+pub said_so : (s : ExplainSettings) (world : World) (content : FileContent) (v : Verdict) (text : List ℕ) → (v ≡ Accepted → ⊥) → IsVerdictTold world content v text
+    → IsSaid s world content v text
+said_so s world content Accepted text never h = absurd (never refl)
+said_so s world content (Refused w) text never h = h
+said_so s world content (Verify f) text never h = h
+
+-- a file that is accepted holds a class
+pub class_of_accepted : (world : World) (why : Option LoadVerdict) (content : FileContent) → IsVerdictOfContent world why (Some content) Accepted → (class : Class) × (content ≡ Holds class)
+class_of_accepted world why (Holds class) is = (class, refl)
+class_of_accepted world (Some w) OtherVersion is = absurd cc
+class_of_accepted world (Some w) NoClassFile is = absurd cc
+class_of_accepted world (Some w) MoreThanProfile is = absurd cc
+class_of_accepted world None OtherVersion is = absurd is
+class_of_accepted world None NoClassFile is = absurd is
+class_of_accepted world None MoreThanProfile is = absurd is

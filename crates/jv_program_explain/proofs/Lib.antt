@@ -1,5 +1,9 @@
+pub mod Classes
 pub mod Faults
 pub mod InParts
+pub mod Listed
+pub mod Methods
 pub mod Numbering
 pub mod Saying
+pub mod Typed
 pub mod Wanted

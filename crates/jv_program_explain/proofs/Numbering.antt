@@ -15,7 +15,7 @@ use Rattle.jv_meaning_typing.specs.Judgement.{IsVerdictBehind, IsVerdictOfConten
 use Rattle.jv_verify.specs.Files.{AreVerdicts}
 use Rattle.jv_verify.specs.Inside.Numbered.{joins, next_number, number_behind}
 use Rattle.jv_verify.proofs.Numbered.{next_behind, stands}
-use Rattle.jv_program_explain.specs.Inside.Numbered.{IsJudgedAt, StandsAt, is_on_methods, tells_links, why_of}
+use Rattle.jv_program_explain.specs.Inside.Numbered.{IsJudgedAt, StandsAt, is_on_methods, why_of}
 
 -- ---- what a verdict says of what was wrong before
 
@@ -33,14 +33,6 @@ known_why world (Some w) MoreThanProfile v h = ap why_of h
 known_why world None OtherVersion v h = absurd h
 known_why world None NoClassFile v h = absurd h
 known_why world None MoreThanProfile v h = absurd h
-
-pub accepted_by : (links : Bool) (v : Verdict) → IsTrue (tells_links links v) → v ≡ Accepted
-accepted_by true Accepted on = refl
-accepted_by true (Refused w) on = absurd cc
-accepted_by true (Verify f) on = absurd cc
-accepted_by false Accepted on = absurd cc
-accepted_by false (Refused w) on = absurd cc
-accepted_by false (Verify f) on = absurd cc
 
 on_methods : (v : Verdict) → IsTrue (is_on_methods v) → why_of v ≡ None
 on_methods Accepted on = refl

@@ -1,5 +1,5 @@
 -- What is said of files one by one.
-use Rattle.std.proofs.Common.{◌≡◌, ℕ, zero, suc, ◌+◌, ◌<◌, Bool, List, [], ◌∷◌, ◌++◌, length, take, min, Option, Some, refl, sym, ap, subst, ◌∙◌, ◌⊎◌, inl, inr, arith}
+use Rattle.std.proofs.Common.{◌≡◌, ℕ, zero, suc, ◌+◌, ◌<◌, List, [], ◌∷◌, ◌++◌, length, take, min, Option, Some, refl, sym, ap, subst, ◌∙◌, ◌⊎◌, inl, inr, arith}
 use Rattle.std.specs.Prelude.{IsTrue, slice_get}
 use Rattle.std.proofs.lemmas.List.{length-append}
 use Rattle.jv_class.specs.Class.{Class}
@@ -12,6 +12,7 @@ use Rattle.jv_meaning_typing.specs.declared.verdict.Verdict.{Verdict}
 use Rattle.jv_meaning_typing.specs.Judgement.{IsVerdictOfContent}
 use Rattle.jv_verify.specs.Files.{AreVerified, Verified}
 use Rattle.jv_verify.specs.Inside.Numbered.{joins, next_number, number_behind}
+use Rattle.jv_program_explain.specs.declared.settings.ExplainSettings.{ExplainSettings}
 use Rattle.jv_program_explain.specs.Explain.{AreExplained, IsSaid}
 use Rattle.jv_program_explain.specs.Inside.Below.{AreExplainedBelow}
 use Rattle.jv_program_explain.specs.Inside.Numbered.{IsJudgedAt, StandsAt, is_on_methods, why_of}
@@ -58,9 +59,9 @@ nothing [] e zero text at = absurd cc
 nothing [] e (suc k) text at = absurd cc
 nothing (x ∷ xs) e place text at = absurd cc
 
-pub none_yet : (links : Bool) (given : List Class) (contents : List FileContent) (verdicts : List Verdict) (number : ℕ)
-    → number ≡ length (with_library given).system + length (with_library given).front → AreExplainedBelow links given contents verdicts 0 number []
-none_yet links given contents verdicts number e = record {
+pub none_yet : (s : ExplainSettings) (given : List Class) (contents : List FileContent) (verdicts : List Verdict) (number : ℕ)
+    → number ≡ length (with_library given).system + length (with_library given).front → AreExplainedBelow s given contents verdicts 0 number []
+none_yet s given contents verdicts number e = record {
   number_is = number_at contents;
   count = refl;
   each = λ place content verdict text at v t. absurd (nothing [] refl place text t);
@@ -71,7 +72,7 @@ none_yet links given contents verdicts number e = record {
     number_at (f ∷ more) = e
 
 module _ (files : List (List ℕ)) (given : List Class) (contents : List FileContent) (are : AreContents files contents) (verified : Verified) (found : AreVerified given contents verified) where
-  module _ (links : Bool) (k : ℕ) (less : k < length files) (v : Verdict) (judged : slice_get verified.verdicts k ≡ Some v) (number : ℕ)
+  module _ (s : ExplainSettings) (k : ℕ) (less : k < length files) (v : Verdict) (judged : slice_get verified.verdicts k ≡ Some v) (number : ℕ)
       (number_is : number ≡ number_behind (with_library given) (take k contents)) (world : World) (same : world ≡ verified.world) where
     here : (f : FileContent) × (slice_get contents k ≡ Some f)
     here =
@@ -93,11 +94,11 @@ module _ (files : List (List ℕ)) (given : List Class) (contents : List FileCon
         (subst (λ (n : ℕ). n < length (world_of (with_library given) contents)) (sym number_is)
         (is_within given contents verified.verdicts found.verdicts k here.0 v here.1 judged on))
 
-    pub one_more : (said : List (List ℕ)) → AreExplainedBelow links given contents verified.verdicts k number said → (bytes text : List ℕ) (next : ℕ) → slice_get files k ≡ Some bytes
+    pub one_more : (said : List (List ℕ)) → AreExplainedBelow s given contents verified.verdicts k number said → (bytes text : List ℕ) (next : ℕ) → slice_get files k ≡ Some bytes
         → next ≡ next_number number (why_of v)
         → ((why : Option LoadVerdict) (content : FileContent) → IsContent bytes content → IsVerdictOfContent world why (Some content) v
-        → (IsTrue (is_on_methods v) → StandsAt world number content) → IsSaid links world content v text)
-        → AreExplainedBelow links given contents verified.verdicts (k + 1) next (said ++ text ∷ [])
+        → (IsTrue (is_on_methods v) → StandsAt world number content) → IsSaid s world content v text)
+        → AreExplainedBelow s given contents verified.verdicts (k + 1) next (said ++ text ∷ [])
     one_more said below bytes text next file next_on says = record {
       number_is =
           next_on
@@ -110,9 +111,9 @@ module _ (files : List (List ℕ)) (given : List Class) (contents : List FileCon
         plus : k + 1 ≡ suc k
         plus = omega arith
 
-        said_here : IsSaid links (world_of (with_library given) contents) here.0 v text
+        said_here : IsSaid s (world_of (with_library given) contents) here.0 v text
         said_here =
-            subst (λ (w : World). IsSaid links w here.0 v text) is_world
+            subst (λ (w : World). IsSaid s w here.0 v text) is_world
             (says (load_verdict (with_library given) contents k) here.0 (content_at files contents are k bytes here.0 file here.1)
             (subst (λ (w : World). IsVerdictOfContent w (load_verdict (with_library given) contents k) (Some here.0) v) (sym is_world)
             (of_file given contents verified.verdicts found.verdicts k here.0 v here.1 judged))
@@ -121,7 +122,7 @@ module _ (files : List (List ℕ)) (given : List Class) (contents : List FileCon
             (class_there given contents verified.verdicts found.verdicts k here.0 v here.1 judged on))))
 
         by_place : (place : ℕ) (content : FileContent) (w : Verdict) (t : List ℕ) → slice_get contents place ≡ Some content → slice_get verified.verdicts place ≡ Some w
-            → (slice_get said place ≡ Some t) ⊎ ((place ≡ length said) × (text ≡ t)) → IsSaid links (world_of (with_library given) contents) content w t
+            → (slice_get said place ≡ Some t) ⊎ ((place ≡ length said) × (text ≡ t)) → IsSaid s (world_of (with_library given) contents) content w t
         by_place place content w t at w_at (inl before) = below.each place content w t at w_at before
         by_place place content w t at w_at (inr (last, alike)) =
             let now : place ≡ k = last ∙ below.count in
@@ -129,13 +130,13 @@ module _ (files : List (List ℕ)) (given : List Class) (contents : List FileCon
             let verdict_is : v ≡ w = cc in
             let c_same : Some here.0 ≡ Some content = sym here.1 ∙ (ap (slice_get contents) (sym now) ∙ at) in
             let content_is : here.0 ≡ content = cc in
-            subst (λ (x : List ℕ). IsSaid links (world_of (with_library given) contents) content w x) alike
-            (subst (λ (x : Verdict). IsSaid links (world_of (with_library given) contents) content x text) verdict_is
-            (subst (λ (x : FileContent). IsSaid links (world_of (with_library given) contents) x v text) content_is said_here))
+            subst (λ (x : List ℕ). IsSaid s (world_of (with_library given) contents) content w x) alike
+            (subst (λ (x : Verdict). IsSaid s (world_of (with_library given) contents) content x text) verdict_is
+            (subst (λ (x : FileContent). IsSaid s (world_of (with_library given) contents) x v text) content_is said_here))
 
-  pub all_said : (links : Bool) (k number : ℕ) (said : List (List ℕ)) → AreExplainedBelow links given contents verified.verdicts k number said → k ≡ min (length files) (length verified.verdicts)
-      → AreExplained links given contents verified.verdicts said
-  all_said links k number said below e = record {
+  pub all_said : (s : ExplainSettings) (k number : ℕ) (said : List (List ℕ)) → AreExplainedBelow s given contents verified.verdicts k number said → k ≡ min (length files) (length verified.verdicts)
+      → AreExplained s given contents verified.verdicts said
+  all_said s k number said below e = record {
     count = below.count ∙ (e ∙ least (length files) (length verified.verdicts) (sym (as_many files contents are) ∙ sym found.verdicts.count));
     each = below.each;
   }

@@ -1,5 +1,5 @@
 -- What the program says of the files of a guest and of their verdicts (JVMS 4.10, 5.3.5).
-use Rattle.std.specs.Prelude.{◌≡◌, ℕ, Bool, true, false, List, [], None, Some, length, slice_get, string_bytes}
+use Rattle.std.specs.Prelude.{◌≡◌, ℕ, Bool, true, false, List, [], ◌++◌, None, Some, length, slice_get, string_bytes}
 use Rattle.jv_class.specs.Class.{Class}
 use Rattle.jv_meaning_world.specs.FileContent.{FileContent}
 use Rattle.jv_meaning_world.specs.declared.content.Content.TheVariants.{Holds}
@@ -14,13 +14,33 @@ use Rattle.jv_program_check.specs.Text.{check_status}
 use Rattle.jv_explain.specs.Explained.{IsExplanation}
 use Rattle.jv_explain.specs.Supers.{IsRefusalTold}
 use Rattle.jv_links.specs.Text.{AreLinksTold}
+use Rattle.jv_program_explain.specs.Listing.{AreMethodsListed}
 use Rattle.jv_program_explain.specs.Frames.{AreFramesShown}
 use Rattle.jv_program_explain.specs.Text.{explain_report}
+use Rattle.jv_program_explain.specs.declared.settings.ExplainSettings.{ExplainSettings}
 
 -- the references that don't resolve of the class that an accepted file holds (5.4.3)
 abbrev pub TellsLinks : World → FileContent → List ℕ → Type 0
 TellsLinks world (Holds class) text = AreLinksTold world (loaded false class) text
 TellsLinks world content text = text ≡ []
+
+-- the methods of that class, with the frame before each instruction (4.10.1.6)
+abbrev pub TellsFrames : World → FileContent → List ℕ → Type 0
+TellsFrames world (Holds class) text = AreMethodsListed world (loaded false class) text
+TellsFrames world content text = text ≡ []
+
+-- a text that is asked for; else nothing
+abbrev pub IsAsked : Bool → (List ℕ → Type 0) → List ℕ → Type 0
+IsAsked true Tells text = Tells text
+IsAsked false Tells text = text ≡ []
+
+-- what is asked of an accepted file: the methods first
+pub record IsAcceptedTold (s : ExplainSettings) (world : World) (content : FileContent) (text : List ℕ) : Type 0 where
+  pub listing : List ℕ
+  pub frames : IsAsked s.frames (TellsFrames world content) listing
+  pub references : List ℕ
+  pub links : IsAsked s.links (TellsLinks world content) references
+  pub told : text ≡ listing ++ references
 
 -- what its verdict is about, with the frames there
 pub record IsExplainedBy (world : World) (content : FileContent) (verdict : Verdict) (text : List ℕ) : Type 0 where
@@ -33,29 +53,29 @@ abbrev pub IsVerdictTold : World → FileContent → Verdict → List ℕ → Ty
 IsVerdictTold world content (Refused why) text = IsRefusalTold world content why text
 IsVerdictTold world content verdict text = IsExplainedBy world content verdict text
 
--- what is said of a file: with links, these of one that is accepted; else what its verdict is about
-abbrev pub IsSaid : (links : Bool) → World → FileContent → Verdict → List ℕ → Type 0
-IsSaid true world content Accepted text = TellsLinks world content text
-IsSaid links world content verdict text = IsVerdictTold world content verdict text
+-- what is said of a file: of one that is accepted what is asked for, else what its verdict is about
+abbrev pub IsSaid : ExplainSettings → World → FileContent → Verdict → List ℕ → Type 0
+IsSaid s world content Accepted text = IsAcceptedTold s world content text
+IsSaid s world content verdict text = IsVerdictTold world content verdict text
 
 -- of each file of a guest what is said of its verdict, or of its class in the guest's world, with a library of these classes
-pub record AreExplained (links : Bool) (given : List Class) (contents : List FileContent) (verdicts : List Verdict)
+pub record AreExplained (s : ExplainSettings) (given : List Class) (contents : List FileContent) (verdicts : List Verdict)
     (said : List (List ℕ)) : Type 0 where
   pub count : length said ≡ length verdicts
   pub each : (place : ℕ) (content : FileContent) (verdict : Verdict) (text : List ℕ) → slice_get contents place ≡ Some content
       → slice_get verdicts place ≡ Some verdict → slice_get said place ≡ Some text
-      → IsSaid links (world_of (with_library given) contents) content verdict text
+      → IsSaid s (world_of (with_library given) contents) content verdict text
 
 -- The files are within the limits, and the library, of which these are the files, stands beside them; the text has for each file the line
--- of `check` and what is said of its verdict, with links or without, in JSON or not, nothing takes its place, and the status is that of
+-- of `check` and what is said of its verdict, or of its class, in JSON or not, nothing takes its place, and the status is that of
 -- `check`.
-pub record IsExplained (json links : Bool) (library names files : List (List ℕ)) (outcome : Outcome) : Type 0 where
+pub record IsExplained (s : ExplainSettings) (library names files : List (List ℕ)) (outcome : Outcome) : Type 0 where
   pub allowed : first_file_refusal files ≡ None
   pub found : Verified
   pub right : AreFilesOf library files found
   pub stands : HostStands found
   pub said : List (List ℕ)
-  pub explained : AreExplained links right.given right.contents found.verdicts said
-  pub report : string_bytes outcome.report ≡ explain_report json names found.verdicts said
+  pub explained : AreExplained s right.given right.contents found.verdicts said
+  pub report : string_bytes outcome.report ≡ explain_report s.json names found.verdicts said
   pub alone : outcome.raw ≡ None
   pub status : outcome.status ≡ check_status found.verdicts

@@ -9,6 +9,7 @@ ghost use Rattle.jv_program_explain.specs.Text.{explain_report};
 
 use crate::report::Parts;
 use crate::said::said_of;
+use crate::settings::ExplainSettings;
 use jv_json::{explained_values, json_lines};
 use jv_limits::first_file_refusal;
 use jv_loader::SystemFiles;
@@ -70,26 +71,32 @@ fn explained(
     alloc: Global,
     state: RandomState,
     system: &SystemFiles,
-    json: bool,
-    links: bool,
+    settings: ExplainSettings,
     names: &[&[u8]],
     files: &[&[u8]],
 ) -> Result<Outcome, Failure>
     requires { first_file_refusal (map bytes_of files.now) ≡ None }
-    ensures ok { IfOk result (IsExplained json links system.now (map bytes_of names.now) (map bytes_of files.now)) }
+    ensures ok { IfOk result (IsExplained settings system.now (map bytes_of names.now) (map bytes_of files.now)) }
     ensures err { IfErr result (IsHostFailure system.now (map bytes_of files.now)) }
 {
     let Ok(verified) = verify_files(alloc, state, system, files) else {
         return Err(Failure::HostMemory);
     };
     stand(alloc, state, &verified)?;
-    let said = said_of(alloc, state, links, &verified, files)?;
-    Ok(outcome_of(alloc, json, names, verified.verdicts(), said.as_slice())?)
+    let said = said_of(alloc, state, settings, &verified, files)?;
+    Ok(outcome_of(
+        alloc,
+        settings.json,
+        names,
+        verified.verdicts(),
+        said.as_slice(),
+    )?)
 }
 
 /// Takes files of these names, as many as there are files, as those of one guest, runs nothing, and says of each what its verdict is beside
-/// the system's classes and a library's, of a method that breaks a rule where and which, and with links of a class that is accepted which
-/// references of its methods don't resolve (JVMS 5.4.3), in JSON or not.
+/// the system's classes and a library's, of a method that breaks a rule where and which, and of a class that is accepted, as far as the
+/// settings ask for it, its methods with the frame before each instruction (JVMS 4.10.1.6), and which references of theirs don't resolve
+/// (5.4.3), in JSON or not.
 ///
 /// # Errors
 ///
@@ -100,18 +107,17 @@ pub fn explain_files(
     alloc: Global,
     state: RandomState,
     system: &SystemFiles,
-    json: bool,
-    links: bool,
+    settings: ExplainSettings,
     names: &[&[u8]],
     files: &[&[u8]],
 ) -> Result<Outcome, Failure>
     requires { length names.now ≡ length files.now }
     ensures ok { IfOk result (λ outcome.
-        IsExplained json links system.now (map bytes_of names.now) (map bytes_of files.now) outcome) }
+        IsExplained settings system.now (map bytes_of names.now) (map bytes_of files.now) outcome) }
     ensures err { IfErr result (λ failure. IsCheckFailure system.now (map bytes_of files.now) failure) }
 {
     if let Some(fault) = first_file_refusal(files) {
         return Err(Failure::Refused(fault));
     }
-    explained(alloc, state, system, json, links, names, files)
+    explained(alloc, state, system, settings, names, files)
 }

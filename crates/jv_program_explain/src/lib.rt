@@ -2,13 +2,19 @@
 //! program.
 #![tactic(auto)]
 
+mod class;
 mod explaining;
 mod frames;
+mod method;
 mod named;
 mod numbers;
 mod report;
 mod said;
+mod settings;
+mod step;
 mod unmet;
+mod walk;
 
 pub use explaining::explain_files;
 pub use named::explain_named;
+pub use settings::ExplainSettings;

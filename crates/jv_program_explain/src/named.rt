@@ -6,6 +6,7 @@ ghost use Rattle.jv_program_explain.specs.Explain.{IsExplained};
 ghost use Rattle.jv_program_explain.specs.Named.{IsExplainedAs};
 
 use crate::explaining::explain_files;
+use crate::settings::ExplainSettings;
 use jv_loader::SystemFiles;
 use jv_program_base::{Failure, Folders, Outcome, read_library};
 use jv_program_check::{bytes_of_files, bytes_of_texts, read_classes};
@@ -17,14 +18,13 @@ fn explain_read(
     alloc: Global,
     state: RandomState,
     system: &SystemFiles,
-    json: bool,
-    links: bool,
+    settings: ExplainSettings,
     names: &[&str],
     files: &[Vec<u8>],
 ) -> Result<Outcome, Failure>
     requires { length names.now ≡ length files.now }
     ensures ok { IfOk result (λ outcome.
-        IsExplained json links system.now (map bytes_of names.now) (map (λ file. file.items) files.now) outcome) }
+        IsExplained settings system.now (map bytes_of names.now) (map (λ file. file.items) files.now) outcome) }
     ensures err { IfErr result (IsReadFailure system.now (map (λ file. file.items) files.now)) }
 {
     let names = bytes_of_texts(alloc, names)?;
@@ -33,8 +33,7 @@ fn explain_read(
         alloc,
         state,
         system,
-        json,
-        links,
+        settings,
         names.as_slice(),
         files.as_slice(),
     )
@@ -50,16 +49,15 @@ fn explain_read(
 pub fn explain_named<F: Folders>(
     alloc: Global,
     state: RandomState,
-    json: bool,
-    links: bool,
+    settings: ExplainSettings,
     library: Option<&str>,
     names: &[&str],
     folders: &mut F,
 ) -> Result<Outcome, Failure>
-    ensures ok { IfOk result (IsExplainedAs (F.disk folders.old) json links (option_map bytes_of library.entry) (map bytes_of names.now)) }
+    ensures ok { IfOk result (IsExplainedAs (F.disk folders.old) settings (option_map bytes_of library.entry) (map bytes_of names.now)) }
     ensures err { IfErr result (IsNamedFailure (F.disk folders.old) (option_map bytes_of library.entry) (map bytes_of names.now)) }
 {
     let system = read_library(alloc, state, folders, library)?;
     let files = read_classes(alloc, folders, names)?;
-    explain_read(alloc, state, &system, json, links, names, files.as_slice())
+    explain_read(alloc, state, &system, settings, names, files.as_slice())
 }

@@ -2,16 +2,22 @@
 
 ghost use Rattle.std.specs.Prelude.{◌≡◌, ℕ, IfOk, IsTrue, List, Option, Some, map, string_bytes};
 ghost use Rattle.jv_limits.specs.Bytes.{bytes_of};
+ghost use Rattle.jv_links.specs.Text.{AreLinksTold};
+ghost use Rattle.jv_program_explain.specs.Listing.{AreMethodsListed};
 ghost use Rattle.jv_meaning_typing.specs.Judgement.{IsVerdictOfContent};
+ghost use Rattle.jv_meaning_typing.specs.declared.verdict.Verdict.TheVariants.{Accepted};
 ghost use Rattle.jv_meaning_world.specs.FileContent.{FileContent, IsContent};
+ghost use Rattle.jv_meaning_world.specs.Numbers.{HoldsAtNumber};
 ghost use Rattle.jv_meaning_world.specs.declared.verdict.LoadVerdict.{LoadVerdict};
-ghost use Rattle.jv_program_explain.specs.Explain.{IsSaid, IsVerdictTold};
+ghost use Rattle.jv_program_explain.specs.Explain.{IsAcceptedTold, IsAsked, IsSaid, IsVerdictTold};
 ghost use Rattle.jv_program_explain.specs.Inside.Below.{AreSaid};
-ghost use Rattle.jv_program_explain.specs.Inside.Numbered.{IsJudgedAt, StandsAt, is_on_methods, tells_links};
+ghost use Rattle.jv_program_explain.specs.Inside.Numbered.{IsJudgedAt, StandsAt, is_on_methods};
 ghost use Rattle.jv_verify.specs.Files.{AreFilesOf};
 
+use crate::class::list_methods;
 use crate::frames::frames_shown;
 use crate::numbers::next_number;
+use crate::settings::ExplainSettings;
 use jv_explain::{explain_file, explain_refusal};
 use jv_links::explain_links;
 use jv_loader::{Classes, OutOfMemory};
@@ -21,14 +27,64 @@ use jv_verify::Verified;
 use std::alloc::{AllocError, Global};
 use std::hash::RandomState;
 
-/// Whether the references of the class of a file with this verdict are told.
-fn tells_links(links: bool, verdict: Verdict) -> bool
-    ensures { result ≡ tells_links links verdict }
+/// The references of the accepted class with a number that don't resolve, where they are asked for.
+fn links_told(
+    alloc: Global,
+    asked: bool,
+    classes: &Classes<'_>,
+    number: usize,
+    bytes: &[u8],
+) -> Result<String, AllocError>
+    requires { IsJudgedAt classes.now.world number Accepted }
+    ensures { IfOk result (λ text. HoldsAtNumber classes.now.world number (λ l.
+        IsAsked asked (AreLinksTold classes.now.world l) (string_bytes text))) }
 {
-    match verdict {
-        Verdict::Accepted => links,
-        _ => false,
+    if asked {
+        explain_links(alloc, classes, number, bytes)
+    } else {
+        Ok(String::new(alloc))
     }
+}
+
+/// The methods of the accepted class with a number, with the frame before each instruction, where they are asked for. Names are hashed with
+/// the state.
+fn methods_told(
+    alloc: Global,
+    state: RandomState,
+    asked: bool,
+    classes: &Classes<'_>,
+    number: usize,
+    bytes: &[u8],
+) -> Result<String, AllocError>
+    requires { IsJudgedAt classes.now.world number Accepted }
+    ensures { IfOk result (λ text. HoldsAtNumber classes.now.world number (λ l.
+        IsAsked asked (AreMethodsListed classes.now.world l) (string_bytes text))) }
+{
+    if asked {
+        list_methods(alloc, state, classes, number, bytes)
+    } else {
+        Ok(String::new(alloc))
+    }
+}
+
+/// What is asked of a file with these bytes, whose class has a number and is accepted. Names are hashed with the state.
+fn accepted_told(
+    alloc: Global,
+    state: RandomState,
+    settings: ExplainSettings,
+    classes: &Classes<'_>,
+    number: usize,
+    bytes: &[u8],
+) -> Result<String, AllocError>
+    requires { IsJudgedAt classes.now.world number Accepted }
+    ensures { IfOk result (λ text. (why : Option LoadVerdict) (content : FileContent)
+        → IsVerdictOfContent classes.now.world why (Some content) Accepted → StandsAt classes.now.world number content
+        → IsAcceptedTold settings classes.now.world content (string_bytes text)) }
+{
+    let mut text = methods_told(alloc, state, settings.frames, classes, number, bytes)?;
+    let links = links_told(alloc, settings.links, classes, number, bytes)?;
+    text.push_str(&links)?;
+    Ok(text)
 }
 
 /// What is said of the verdict on a file with these bytes, whose class has a number where its methods were looked at. Names are hashed
@@ -59,7 +115,7 @@ fn verdict_told(
 fn said_at(
     alloc: Global,
     state: RandomState,
-    links: bool,
+    settings: ExplainSettings,
     classes: &Classes<'_>,
     number: usize,
     bytes: &[u8],
@@ -69,12 +125,11 @@ fn said_at(
     ensures { IfOk result (λ text. (why : Option LoadVerdict) (content : FileContent) → IsContent bytes.now content
         → IsVerdictOfContent classes.now.world why (Some content) verdict
         → (IsTrue (is_on_methods verdict) → StandsAt classes.now.world number content)
-        → IsSaid links classes.now.world content verdict (string_bytes text)) }
+        → IsSaid settings classes.now.world content verdict (string_bytes text)) }
 {
-    if tells_links(links, verdict) {
-        Ok(explain_links(alloc, classes, number, bytes)?)
-    } else {
-        verdict_told(alloc, state, classes, number, bytes, verdict)
+    match verdict {
+        Verdict::Accepted => Ok(accepted_told(alloc, state, settings, classes, number, bytes)?),
+        _ => verdict_told(alloc, state, classes, number, bytes, verdict),
     }
 }
 
@@ -82,12 +137,12 @@ fn said_at(
 pub(crate) fn said_of(
     alloc: Global,
     state: RandomState,
-    links: bool,
+    settings: ExplainSettings,
     verified: &Verified<'_>,
     files: &[&[u8]],
 ) -> Result<Vec<String>, AllocError>
     requires { (library : List (List ℕ)) × AreFilesOf library (map bytes_of files.now) verified.now }
-    ensures { IfOk result (λ said. AreSaid links (map bytes_of files.now) verified.now (map string_bytes said.items)) }
+    ensures { IfOk result (λ said. AreSaid settings (map bytes_of files.now) verified.now (map string_bytes said.items)) }
 {
     let classes = verified.classes();
     let verdicts = verified.verdicts();
@@ -96,7 +151,7 @@ pub(crate) fn said_of(
     for place in 0..files.len().min(verdicts.len()) {
         let bytes = bytes_at(files, place);
         let verdict = verdict_at(verdicts, place);
-        let Ok(text) = said_at(alloc, state, links, classes, number, bytes, verdict) else {
+        let Ok(text) = said_at(alloc, state, settings, classes, number, bytes, verdict) else {
             return Err(AllocError);
         };
         said.push(text).map_err(AllocError::from)?;

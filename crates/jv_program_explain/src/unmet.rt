@@ -52,9 +52,9 @@ pub(crate) struct ShownUnmet<'f, 'a> {
 
 /// A frame, behind whose it is, as it is printed.
 #[derive(Clone, Copy)]
-struct ShownNamed<'f, 'a> {
-    whose: &'f str,
-    frame: &'f NamedFrame<'a>,
+pub(crate) struct ShownNamed<'f, 'a> {
+    pub(crate) whose: &'f str,
+    pub(crate) frame: &'f NamedFrame<'a>,
 }
 
 /// The type that is there, and the one that is wanted, as they are printed.

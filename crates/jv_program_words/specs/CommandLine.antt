@@ -2,7 +2,7 @@
 --     jvhost run [--library FOLDER] [--cells N] [--words N] [--output N] [--quantum N] [--rounds N] [--stdin K] [--raw K] [--json]
 --         [--where] [--progress] [--time] FOLDER...
 --     jvhost check [--library FOLDER] [--json] FILE...
---     jvhost explain [--library FOLDER] [--json] [--links] FILE...
+--     jvhost explain [--library FOLDER] [--json] [--links] [--frames] FILE...
 use Rattle.std.specs.Prelude.{ℕ, true, List, Some, codes, pos}
 use Rattle.clap.specs.Lexer.{usize_max}
 use Rattle.clap.specs.Walk.{Rule}
@@ -66,6 +66,10 @@ with_form line = with_rule line (flag (codes "json"))
 abbrev pub with_links : App → App
 with_links line = with_rule line (flag (codes "links"))
 
+-- with whether methods are listed with their frames
+abbrev pub with_frames : App → App
+with_frames line = with_rule line (flag (codes "frames"))
+
 -- with which guest is fed, and which one's output is written as it is
 abbrev pub with_streams : App → App
 with_streams line = with_guest (codes "raw") (with_guest (codes "stdin") line)
@@ -87,7 +91,7 @@ abbrev pub check_line : App
 check_line = with_form (with_names (codes "file") (new_app (codes "check")))
 
 abbrev pub explain_line : App
-explain_line = with_links (with_form (with_names (codes "file") (new_app (codes "explain"))))
+explain_line = with_frames (with_links (with_form (with_names (codes "file") (new_app (codes "explain")))))
 
 -- one of the three commands has to be there; `--help` and `--version` are answered
 abbrev pub command_line : App

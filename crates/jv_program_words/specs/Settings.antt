@@ -94,9 +94,10 @@ options_in rows =
       time = is_flag_in rows (codes "time");
     })
 
--- whether the report is JSON, and whether references that don't resolve are told
+-- whether the report is JSON, whether references that don't resolve are told, and whether methods are listed with their frames
 abbrev pub explain_options_in : List Row → ExplainOptions
-explain_options_in rows = record { json = is_flag_in rows (codes "json"); links = is_flag_in rows (codes "links") }
+explain_options_in rows =
+    record { json = is_flag_in rows (codes "json"); links = is_flag_in rows (codes "links"); frames = is_flag_in rows (codes "frames") }
 
 -- the word of an option, where it is used
 abbrev pub word_in : List Row → (name : List ℕ) → Option (List ℕ)

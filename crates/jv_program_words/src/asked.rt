@@ -37,6 +37,8 @@ pub struct ExplainOptions {
     pub json: bool,
     /// Whether the references of an accepted class that don't resolve are told.
     pub links: bool,
+    /// Whether the methods of an accepted class are listed, with the frame before each instruction.
+    pub frames: bool,
 }
 
 /// What the words of the command line ask for.

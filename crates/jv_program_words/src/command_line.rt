@@ -187,7 +187,12 @@ fn explain_line<'a>(alloc: Global) -> Result<Command<'a>, AllocError>
         "links",
         "Tells each reference of an accepted class that won't resolve",
     );
-    let args = [files, library(alloc), json(alloc), links];
+    let frames = flag(
+        alloc,
+        "frames",
+        "Lists the methods of an accepted class, with the frame before each instruction",
+    );
+    let args = [files, library(alloc), json(alloc), links, frames];
     Command::new(alloc, "explain")
         .about(about)
         .args(Vec::from_array(alloc, args)?)

@@ -91,6 +91,7 @@ fn explain_options_in(found: &ArgMatches<'_>) -> ExplainOptions
     ExplainOptions {
         json: is_set(found, "json"),
         links: is_set(found, "links"),
+        frames: is_set(found, "frames"),
     }
 }
 

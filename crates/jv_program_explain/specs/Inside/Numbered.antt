@@ -15,11 +15,6 @@ abbrev pub why_of : Verdict → Option LoadVerdict
 why_of (verdicts.Refused why) = Some why
 why_of _ = None
 
--- with links the references of an accepted class are told
-abbrev pub tells_links : (links : Bool) → Verdict → Bool
-tells_links true verdicts.Accepted = true
-tells_links _ _ = false
-
 -- the verdict is about the methods of a class
 abbrev pub is_on_methods : Verdict → Bool
 is_on_methods (verdicts.Refused why) = false

@@ -47,14 +47,14 @@ returns-in_ok-run_for-in-Run-clause-alone g c = λ none.
     let quiet = alone line c.in-Run.options (text_of c.in-Run.library) (texts_of c.in-Run.named) asked none in
     c.run_for.ensures.alone quiet.0 quiet.1
 
-pub returns-in_err-explain_named-in-Explain-clause-unread : goal.returns-in_err-explain_named-in-Explain-clause-unread
-returns-in_err-explain_named-in-Explain-clause-unread g c = λ none.
+pub returns-in_err-explain_for-in-Explain-clause-unread : goal.returns-in_err-explain_for-in-Explain-clause-unread
+returns-in_err-explain_for-in-Explain-clause-unread g c = λ none.
     let line = map string_bytes c.args.words.now in
     let asked = subst (λ (s : Settings). IsAskedIn line s) c.in-Explain.is (c.in_ok-options.ensures {u = tt}).ok in
     absurd (none (inr (inr (c.in-Explain.options, text_of c.in-Explain.library, texts_of c.in-Explain.names, asked))))
 
-pub returns-in_ok-explain_named-in-Explain-clause-unread : goal.returns-in_ok-explain_named-in-Explain-clause-unread
-returns-in_ok-explain_named-in-Explain-clause-unread g c = λ none.
+pub returns-in_ok-explain_for-in-Explain-clause-unread : goal.returns-in_ok-explain_for-in-Explain-clause-unread
+returns-in_ok-explain_for-in-Explain-clause-unread g c = λ none.
     let line = map string_bytes c.args.words.now in
     let asked = subst (λ (s : Settings). IsAskedIn line s) c.in-Explain.is (c.in_ok-options.ensures {u = tt}).ok in
     absurd (none (inr (inr (c.in-Explain.options, text_of c.in-Explain.library, texts_of c.in-Explain.names, asked))))

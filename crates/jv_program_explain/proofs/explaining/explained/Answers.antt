@@ -24,8 +24,8 @@ returns-clause-ok c =
       said = said;
       explained = c.in_ok-said.ensures are.given are.contents are.read are.found;
       report = c.in_ok-outcome_of.ensures.report
-          ∙ (ap (λ (vs : List Verdict). explain_report c.args.json names vs (map string_bytes c.as_slice.result.now)) c.verdicts.ensures
-          ∙ ap (λ told. explain_report c.args.json names found.verdicts (map string_bytes told)) c.as_slice.ensures.value);
+          ∙ (ap (λ (vs : List Verdict). explain_report c.args.settings.json names vs (map string_bytes c.as_slice.result.now)) c.verdicts.ensures
+          ∙ ap (λ told. explain_report c.args.settings.json names found.verdicts (map string_bytes told)) c.as_slice.ensures.value);
       alone = c.in_ok-outcome_of.ensures.raw;
       status = c.in_ok-outcome_of.ensures.status ∙ ap check_status c.verdicts.ensures;
     }

@@ -1,29 +1,30 @@
-use Rattle.std.proofs.Common.{ap, sym, subst}
-use Rattle.std.specs.Prelude.{string_bytes}
+use Rattle.std.proofs.Common.{Some, refl, sym, subst}
+use Rattle.std.specs.Prelude.{IsTrue, string_bytes}
+use Rattle.std.proofs.lemmas.Result.{IfOk-weaker}
 use Rattle.jv_meaning_typing.specs.declared.verdict.Verdict.{Verdict}
-use Rattle.jv_meaning_typing.specs.Judgement.{IsVerdictOfMethods}
-use Rattle.jv_program_explain.specs.Inside.Numbered.{is_on_methods}
-use Rattle.jv_program_explain.proofs.Faults.{links_said}
-use Rattle.jv_program_explain.proofs.Numbering.{accepted_by}
+use Rattle.jv_meaning_typing.specs.Judgement.{IsVerdictOfContent}
+use Rattle.jv_program_explain.specs.Explain.{IsSaid}
+use Rattle.jv_program_explain.specs.Inside.Numbered.{IsJudgedAt, StandsAt, is_on_methods}
+use Rattle.jv_program_explain.proofs.Faults.{said_so}
 use Rattle.jv_program_explain.proofs.said.said_at.Goals as goal
 
-pub explain_links-requires-clause-class : goal.explain_links-requires-clause-class
-explain_links-requires-clause-class c =
-    let is = accepted_by c.args.links c.args.verdict (sym c.if-tells_links.ensures) in
-    (c.requires (ap is_on_methods is)).class
+pub accepted_told-requires : goal.accepted_told-requires
+accepted_told-requires c =
+    let judged = subst (λ (v : Verdict). IsTrue (is_on_methods v) → IsJudgedAt c.args.classes.now.world c.args.number v) c.in-Accepted.is c.requires in
+    judged refl
 
-pub explain_links-requires-clause-guest : goal.explain_links-requires-clause-guest
-explain_links-requires-clause-guest c =
-    let is = accepted_by c.args.links c.args.verdict (sym c.if-tells_links.ensures) in
-    (c.requires (ap is_on_methods is)).guest
+pub returns-in_ok-accepted_told-in-Accepted : goal.returns-in_ok-accepted_told-in-Accepted
+returns-in_ok-accepted_told-in-Accepted c = λ why content is v stands.
+    let world = c.args.classes.now.world in
+    let text = string_bytes c.in_ok-accepted_told-in-Accepted.field-0 in
+    let on = subst (λ (w : Verdict). IsVerdictOfContent world why (Some content) w) c.in-Accepted.is v in
+    let there = subst (λ (w : Verdict). IsTrue (is_on_methods w) → StandsAt world c.args.number content) c.in-Accepted.is stands in
+    subst (λ (w : Verdict). IsSaid c.args.settings world content w text) (sym c.in-Accepted.is)
+    (c.in_ok-accepted_told-in-Accepted.ensures why content on (there refl))
 
-pub explain_links-requires-clause-typed : goal.explain_links-requires-clause-typed
-explain_links-requires-clause-typed c = λ l at.
-    let is = accepted_by c.args.links c.args.verdict (sym c.if-tells_links.ensures) in
-    subst (λ (v : Verdict). IsVerdictOfMethods c.args.classes.now.world l v) is ((c.requires (ap is_on_methods is)).judged l at)
-
-pub returns-in_ok-explain_links : goal.returns-in_ok-explain_links
-returns-in_ok-explain_links c = λ why content is v stands.
-    let on = sym c.if-tells_links.ensures in
-    links_said c.args.links c.args.classes.now.world c.args.number why content c.args.verdict (string_bytes c.in_ok-explain_links.field-0) on c.in_ok-explain_links.ensures v
-    (stands (ap is_on_methods (accepted_by c.args.links c.args.verdict on)))
+pub returns-in_default : goal.returns-in_default
+returns-in_default c =
+    let world = c.args.classes.now.world in
+    IfOk-weaker c.verdict_told.result _ _
+    (λ text told why content is v stands. said_so c.args.settings world content c.args.verdict (string_bytes text) c.in_default.not-Accepted (told why content is v stands))
+    c.verdict_told.ensures

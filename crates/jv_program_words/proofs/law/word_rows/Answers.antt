@@ -21,6 +21,7 @@ rows = record {
   linked = refl;
   behind_a_library = refl;
   checked_behind = refl;
+  with_frames = refl;
   explained_behind = refl;
   nothing = refl;
   no_command = refl;
