@@ -1,1 +1,2 @@
+mod Among
 pub mod There

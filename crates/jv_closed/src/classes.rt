@@ -1,6 +1,6 @@
 //! What classes name (JVMS 4.1).
 
-ghost use Rattle.std.specs.Prelude.{◌≡◌, IfOk};
+ghost use Rattle.std.specs.Prelude.{◌≡◌, ◌≤◌, IfOk, length, take};
 ghost use Rattle.std.specs.List.{flat_map};
 ghost use Rattle.std.specs.Option.{option_copied};
 ghost use Rattle.jv_meaning_world.specs.Above.{superclass_names, super_names};
@@ -8,26 +8,27 @@ ghost use Rattle.jv_meaning_library.specs.Closed.{constant_names, descriptor_nam
 ghost use Rattle.jv_closed.specs.There.{are_there};
 
 use crate::constants::has_constants;
-use crate::texts::{both, has_class, has_described};
+use crate::first::FirstClasses;
+use crate::texts::{both, has_described};
 use jv_classes::{ClassTable, LoadedClass};
 use std::alloc::{AllocError, Global};
 
-fn has_superclass(table: &ClassTable<'_>, name: Option<&[u8]>) -> bool
+fn has_superclass(table: &FirstClasses<'_, '_>, name: Option<&[u8]>) -> bool
     ensures { result ≡ are_there table.now (superclass_names (option_copied name.entry)) }
 {
     match name {
-        Some(name) => has_class(table, name),
+        Some(name) => table.has_class(name),
         None => true,
     }
 }
 
 /// Whether the table has the direct supers of a class.
-fn has_supers(table: &ClassTable<'_>, class: &LoadedClass<'_>) -> bool
+fn has_supers(table: &FirstClasses<'_, '_>, class: &LoadedClass<'_>) -> bool
     ensures { result ≡ are_there table.now (super_names class.now.class) }
 {
     let mut all = has_superclass(table, class.super_name());
     for k in 0..class.interface_count() {
-        let is_there = has_class(table, class.interface_name(k));
+        let is_there = table.has_class(class.interface_name(k));
         all = both(all, is_there);
     }
     all
@@ -36,7 +37,7 @@ fn has_supers(table: &ClassTable<'_>, class: &LoadedClass<'_>) -> bool
 /// Whether it has the classes that the constants of a class name; host/Io has no constants.
 fn has_all_constants(
     alloc: Global,
-    table: &ClassTable<'_>,
+    table: &FirstClasses<'_, '_>,
     class: &LoadedClass<'_>,
 ) -> Result<bool, AllocError>
     ensures { IfOk result (λ all.
@@ -50,7 +51,7 @@ fn has_all_constants(
 
 fn has_field_types(
     alloc: Global,
-    table: &ClassTable<'_>,
+    table: &FirstClasses<'_, '_>,
     class: &LoadedClass<'_>,
 ) -> Result<bool, AllocError>
     ensures { IfOk result (λ all. all ≡ are_there table.now (flat_map (λ f. descriptor_names f.descriptor) class.now.class.fields)) }
@@ -65,7 +66,7 @@ fn has_field_types(
 
 fn has_method_types(
     alloc: Global,
-    table: &ClassTable<'_>,
+    table: &FirstClasses<'_, '_>,
     class: &LoadedClass<'_>,
 ) -> Result<bool, AllocError>
     ensures { IfOk result (λ all. all ≡ are_there table.now (flat_map (λ m. descriptor_names m.descriptor) class.now.class.methods)) }
@@ -81,7 +82,7 @@ fn has_method_types(
 /// Whether it has all the classes that a class names.
 fn names_classes_of(
     alloc: Global,
-    table: &ClassTable<'_>,
+    table: &FirstClasses<'_, '_>,
     class: &LoadedClass<'_>,
 ) -> Result<bool, AllocError>
     ensures { IfOk result (λ all. all ≡ names_classes_of table.now class.now.class) }
@@ -94,14 +95,8 @@ fn names_classes_of(
     Ok(both(supers, both(constants, members)))
 }
 
-/// Whether each class of a table names classes of the table alone, by its constants, as supers and in its members' descriptors (JVMS 4.1).
-/// Of the classes that a host gives, without a guest's, that says that the host's library is closed: they are then judged alike beside all
-/// guests (`jv_meaning_library`).
-///
-/// # Errors
-///
-/// Where the host had no memory for the types of a descriptor.
-pub fn is_closed(alloc: Global, table: &ClassTable<'_>) -> Result<bool, AllocError>
+/// Whether each of them names these alone.
+fn are_closed(alloc: Global, table: &FirstClasses<'_, '_>) -> Result<bool, AllocError>
     ensures { IfOk result (λ closed. closed ≡ is_closed_world table.now) }
 {
     let classes = table.classes();
@@ -111,4 +106,18 @@ pub fn is_closed(alloc: Global, table: &ClassTable<'_>) -> Result<bool, AllocErr
         all = both(all, is_there);
     }
     Ok(all)
+}
+
+/// Whether each of the first classes of a table, so many, names classes among these alone, by its constants, as supers and in its members'
+/// descriptors (JVMS 4.1). Of the classes that a host gives, which come first, that says that the host's library is closed: they are then
+/// judged alike beside all guests (`jv_meaning_library`).
+///
+/// # Errors
+///
+/// Where the host had no memory for the types of a descriptor.
+pub fn is_closed(alloc: Global, table: &ClassTable<'_>, count: usize) -> Result<bool, AllocError>
+    requires { count ≤ length table.now }
+    ensures { IfOk result (λ closed. closed ≡ is_closed_world (take count table.now)) }
+{
+    are_closed(alloc, &FirstClasses::of(table, count))
 }

@@ -6,15 +6,15 @@ ghost use Rattle.jv_pool.specs.Constants.{at_index};
 ghost use Rattle.jv_meaning_library.specs.Closed.{constant_names};
 ghost use Rattle.jv_closed.specs.There.{are_there, constant_is_there};
 
+use crate::first::FirstClasses;
 use crate::texts::{both, has_described, has_named};
-use jv_classes::ClassTable;
 use jv_pool::{Constant, Pool};
 use std::alloc::{AllocError, Global};
 
 /// Whether the table has the classes that the constant at an index names, if one is there.
 fn has_constant(
     alloc: Global,
-    table: &ClassTable<'_>,
+    table: &FirstClasses<'_, '_>,
     pool: &Pool<'_>,
     index: u16,
 ) -> Result<bool, AllocError>
@@ -36,7 +36,7 @@ fn has_constant(
 /// Whether it has the classes that the constants of a pool name.
 pub(crate) fn has_constants(
     alloc: Global,
-    table: &ClassTable<'_>,
+    table: &FirstClasses<'_, '_>,
     pool: &Pool<'_>,
 ) -> Result<bool, AllocError>
     ensures { IfOk result (λ all. all ≡ are_there table.now (flat_map (constant_names pool.now) pool.now)) }

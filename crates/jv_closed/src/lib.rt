@@ -3,6 +3,7 @@
 
 mod classes;
 mod constants;
+mod first;
 mod texts;
 
 pub use classes::is_closed;

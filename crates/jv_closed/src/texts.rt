@@ -6,7 +6,7 @@ ghost use Rattle.jv_text.specs.Types.{field_type_of, method_type_of};
 ghost use Rattle.jv_meaning_library.specs.Closed.{element_names, type_names, method_names, descriptor_names, class_text_names, is_there};
 ghost use Rattle.jv_closed.specs.There.{are_there, types_are_there};
 
-use jv_classes::ClassTable;
+use crate::first::FirstClasses;
 use jv_text::{DescFault, Element, FieldType, field_type, is_array_name, method_type, types_agree};
 use std::alloc::{AllocError, Global};
 
@@ -17,24 +17,17 @@ pub(crate) fn both(one: bool, other: bool) -> bool
     one && other
 }
 
-/// Whether the table has a class of the name.
-pub(crate) fn has_class(table: &ClassTable<'_>, name: &[u8]) -> bool
-    ensures { result ≡ is_there table.now name.now }
-{
-    table.find(name).is_some()
-}
-
-fn has_element(table: &ClassTable<'_>, element: Element<&[u8]>) -> bool
+fn has_element(table: &FirstClasses<'_, '_>, element: Element<&[u8]>) -> bool
     ensures { result ≡ are_there table.now (element_names (seen_element element.entry)) }
 {
     match element {
         Element::Base(_) => true,
-        Element::Class(name) => has_class(table, name),
+        Element::Class(name) => table.has_class(name),
     }
 }
 
 /// Whether it has the class that a field descriptor names, if the text is one that names one (JVMS 4.3.2).
-fn has_field_class(table: &ClassTable<'_>, text: &[u8]) -> bool
+fn has_field_class(table: &FirstClasses<'_, '_>, text: &[u8]) -> bool
     ensures { result ≡ are_there table.now (type_names (field_type_of text.now)) }
 {
     types_agree();
@@ -44,7 +37,7 @@ fn has_field_class(table: &ClassTable<'_>, text: &[u8]) -> bool
     }
 }
 
-fn has_types(table: &ClassTable<'_>, types: &[FieldType<'_>]) -> bool
+fn has_types(table: &FirstClasses<'_, '_>, types: &[FieldType<'_>]) -> bool
     ensures { result ≡ types_are_there table.now (map seen_field_type types.now) }
 {
     let mut all = true;
@@ -55,7 +48,7 @@ fn has_types(table: &ClassTable<'_>, types: &[FieldType<'_>]) -> bool
     all
 }
 
-fn has_result(table: &ClassTable<'_>, result_type: Option<FieldType<'_>>) -> bool
+fn has_result(table: &FirstClasses<'_, '_>, result_type: Option<FieldType<'_>>) -> bool
     ensures { result ≡ are_there table.now (type_names (seen_result result_type.entry)) }
 {
     match result_type {
@@ -67,7 +60,7 @@ fn has_result(table: &ClassTable<'_>, result_type: Option<FieldType<'_>>) -> boo
 /// Whether it has the classes that a method descriptor names, if the text is one (JVMS 4.3.3).
 fn has_method_classes(
     alloc: Global,
-    table: &ClassTable<'_>,
+    table: &FirstClasses<'_, '_>,
     text: &[u8],
 ) -> Result<bool, AllocError>
     ensures { IfOk result (λ all. all ≡ are_there table.now (method_names (method_type_of text.now))) }
@@ -87,7 +80,7 @@ fn has_method_classes(
 /// Whether it has the classes that a descriptor names, of a field or of a method.
 pub(crate) fn has_described(
     alloc: Global,
-    table: &ClassTable<'_>,
+    table: &FirstClasses<'_, '_>,
     text: &[u8],
 ) -> Result<bool, AllocError>
     ensures { IfOk result (λ all. all ≡ are_there table.now (descriptor_names text.now)) }
@@ -98,12 +91,12 @@ pub(crate) fn has_described(
 }
 
 /// Whether it has the class that the text of a Class constant names, if it names one (JVMS 4.4.1).
-pub(crate) fn has_named(table: &ClassTable<'_>, text: &[u8]) -> bool
+pub(crate) fn has_named(table: &FirstClasses<'_, '_>, text: &[u8]) -> bool
     ensures { result ≡ are_there table.now (class_text_names text.now) }
 {
     if is_array_name(text) {
         has_field_class(table, text)
     } else {
-        has_class(table, text)
+        table.has_class(text)
     }
 }

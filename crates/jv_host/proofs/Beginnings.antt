@@ -5,7 +5,7 @@ use Rattle.std.proofs.lemmas.List.{length-map}
 use Rattle.jv_meaning_world.specs.declared.content.Content.TheVariants.{Holds}
 use Rattle.jv_meaning_world.specs.FileContent.{FileContent, AreContents}
 use Rattle.jv_meaning_machine.specs.Alone.{Feed}
-use Rattle.jv_verify.specs.Files.{Verified, AreFilesOf}
+use Rattle.jv_library.specs.Files.{Verified, AreFilesOf}
 use Rattle.jv_interp_heap.specs.ObjectsInBlocks.{Blocks}
 use Rattle.jv_interp.specs.Started.{budget_of}
 use Rattle.jv_interp.proofs.FewClasses.{few_given}

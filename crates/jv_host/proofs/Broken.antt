@@ -6,7 +6,7 @@ use Rattle.jv_meaning_world.specs.Library.{with_library}
 use Rattle.jv_meaning_machine.specs.Alone.{GuestFiles, Stands}
 use Rattle.jv_meaning_machine.specs.Laws.Shown.{JudgedByVerdicts}
 use Rattle.jv_sound.specs.Law.{NoLibraryStands}
-use Rattle.jv_verify.specs.Files.{AreFilesOf, Verified}
+use Rattle.jv_library.specs.Files.{AreFilesOf, Verified}
 use Rattle.jv_interp.proofs.Begun.{judged, right, stands_here}
 use Rattle.jv_interp_heap.specs.ObjectsInBlocks.{Blocks}
 use Rattle.jv_limits.specs.declared.fault.AdmitFault.{AdmitFault}

@@ -14,11 +14,11 @@ ghost use Rattle.jv_host.specs.Inside.Holding.{admission_of, IsSomeHeld, GoesOn,
 use crate::files::GuestFiles;
 use crate::limits::INPUT_BYTES;
 use jv_interp::{Budget, Guest};
+use jv_library::{KnownLibrary, verify_files};
 use jv_limits::{AdmitFault, FeedFault};
 use jv_meaning_machine::{ended_guest_stays, judged_by_verdicts, one_judged};
 use jv_meaning_world::one_content;
 use jv_store::{MOST_WORDS, Store};
-use jv_verify::verify_files;
 use std::alloc::{AllocError, Global};
 use std::hash::RandomState;
 
@@ -75,7 +75,7 @@ fn has_place<S: Store>(store: &S, words: u32) -> bool
     store.total() + u64::from(words) <= MOST_WORDS
 }
 
-/// Judges the files of a guest, and its library beside them, and begins it.
+/// Judges the files of a guest, and its library beside them where that isn't known to stand there, and begins it.
 ///
 /// # Errors
 ///
@@ -85,6 +85,7 @@ pub(crate) fn begin<'a, S: Store>(
     state: RandomState,
     files: GuestFiles<'a>,
     budget: Budget,
+    known: &mut KnownLibrary<'a>,
     store: &mut S,
 ) -> Result<Admitted<'a>, AdmitFault>
     requires library { length files.system.now ≤ 1024 }
@@ -104,7 +105,7 @@ pub(crate) fn begin<'a, S: Store>(
     let Ok(judged) = verify_files(alloc, state, files.system, files.files) else {
         return Err(AdmitFault::HostMemory);
     };
-    let Ok(stands) = judged.host_stands(alloc, state) else {
+    let Ok(stands) = known.stands(alloc, state, files.system, &judged) else {
         return Err(AdmitFault::HostMemory);
     };
     if !stands {

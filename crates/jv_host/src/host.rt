@@ -13,6 +13,7 @@ use crate::admission::{Admitted, begin};
 use crate::files::GuestFiles;
 use crate::limits::first_refusal;
 use jv_interp::{Budget, Observation};
+use jv_library::KnownLibrary;
 use jv_limits::{AdmitFault, FeedFault, NoGuest, TurnFault};
 use jv_meaning_machine::one_judged;
 use jv_meaning_typing::Verdict;
@@ -31,6 +32,7 @@ pub struct GuestId(pub u32);
 pub struct Host<'a, S: Store> {
     alloc: Global,
     state: RandomState,
+    known: KnownLibrary<'a>,
     store: S,
     guests: Vec<Admitted<'a>>,
 }
@@ -53,6 +55,7 @@ impl<S: Store> Drop for Host<'_, S> {
         let Host {
             alloc: _,
             state: _,
+            known: _,
             store: _,
             guests: _,
         } = self;
@@ -67,9 +70,22 @@ impl<'a, S: Store> Host<'a, S> {
         Host {
             alloc,
             state,
+            known: KnownLibrary::new(),
             store: S::empty(alloc),
             guests: Vec::new(alloc),
         }
+    }
+
+    /// What the host knows of the library that its guests brought last, for another host.
+    pub fn known(&self) -> &KnownLibrary<'a> {
+        &self.known
+    }
+
+    /// Takes over what another host knows of a library.
+    pub fn know(&mut self, known: KnownLibrary<'a>)
+        ensures { self.new ≡ self.old }
+    {
+        self.known = known;
     }
 
     /// Admits a guest, at its start, and answers its number.
@@ -96,7 +112,14 @@ impl<'a, S: Store> Host<'a, S> {
             return Err(AdmitFault::HostMemory);
         };
         no_library_stands();
-        let admitted = begin(self.alloc, self.state, files, budget, &mut self.store)?;
+        let admitted = begin(
+            self.alloc,
+            self.state,
+            files,
+            budget,
+            &mut self.known,
+            &mut self.store,
+        )?;
         self.guests.push_reserved(admitted);
         Ok(GuestId(count as u32))
     }

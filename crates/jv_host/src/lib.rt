@@ -15,6 +15,7 @@ mod watch;
 pub use files::GuestFiles;
 pub use host::{GuestId, Host};
 pub use jv_interp::{Budget, GuestEnd, Observation, ThrowPlace};
+pub use jv_library::KnownLibrary;
 pub use jv_limits::{AdmitFault, FeedFault, NoGuest, TurnFault};
 pub use laws::two_worlds;
 pub use watch::{Progress, Unwatched, Watch};

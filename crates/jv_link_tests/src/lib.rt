@@ -7,6 +7,8 @@ mod assign;
 #[cfg(test)]
 mod class;
 #[cfg(test)]
+mod closed;
+#[cfg(test)]
 mod defaults;
 #[cfg(test)]
 mod field;

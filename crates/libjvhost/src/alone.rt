@@ -12,6 +12,7 @@ use crate::judging::judge;
 use crate::room::{hand_on, hand_verdicts_on};
 use crate::seed::state_of;
 use crate::told::{GUEST_SIZE, Guest, SEEN_SIZE, Seen, ToldVerdict};
+use jv_host::KnownLibrary;
 use jv_loader::system_files;
 use std::alloc::Global;
 
@@ -34,7 +35,14 @@ pub extern "C" fn jvhost_check_seeded(
     let (Some(state), Ok(system)) = (state_of(seed, more_seed), system_files(alloc)) else {
         return HOST_MEMORY;
     };
-    let done = check(alloc, state, &system, files, verdicts.len());
+    let done = check(
+        alloc,
+        state,
+        &system,
+        &mut KnownLibrary::new(),
+        files,
+        verdicts.len(),
+    );
     hand_verdicts_on(&done, verdicts)
 }
 

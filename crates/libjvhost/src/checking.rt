@@ -10,6 +10,7 @@ ghost use Rattle.libjvhost.specs.Told.{told_verdict};
 use crate::codes::{HOST_MEMORY, LIBRARY_BROKEN, NO_ROOM, OK, admit_code};
 use crate::done::{Done, coded};
 use crate::told::{ToldVerdict, told_verdict};
+use jv_host::KnownLibrary;
 use jv_limits::first_file_refusal;
 use jv_loader::SystemFiles;
 use jv_verify::{Verified, verify_files};
@@ -40,14 +41,20 @@ pub(crate) fn check_refusal(files: &[&[u8]], room: usize) -> u32
 }
 
 /// Tells the verdicts on the files of one guest, beside those that a host gives.
-fn verify_beside(alloc: Global, state: RandomState, system: &SystemFiles, files: &[&[u8]]) -> Done
+fn verify_beside<'a>(
+    alloc: Global,
+    state: RandomState,
+    system: &'a SystemFiles,
+    known: &mut KnownLibrary<'a>,
+    files: &[&[u8]],
+) -> Done
     ensures so { VerifiesSo system.now (map bytes_of files.now) result }
     ensures whole { system.now ≡ [] → result.code ≢ library_broken }
 {
     let Ok(verified) = verify_files(alloc, state, system, files) else {
         return coded(alloc, HOST_MEMORY);
     };
-    let Ok(stands) = verified.host_stands(alloc, state) else {
+    let Ok(stands) = known.stands(alloc, state, system, &verified) else {
         return coded(alloc, HOST_MEMORY);
     };
     if !stands {
@@ -62,10 +69,11 @@ fn verify_beside(alloc: Global, state: RandomState, system: &SystemFiles, files:
 }
 
 /// The same of files that may be refused, where there is room for so many verdicts.
-pub(crate) fn check(
+pub(crate) fn check<'a>(
     alloc: Global,
     state: RandomState,
-    system: &SystemFiles,
+    system: &'a SystemFiles,
+    known: &mut KnownLibrary<'a>,
     files: &[&[u8]],
     room: usize,
 ) -> Done
@@ -76,5 +84,5 @@ pub(crate) fn check(
     if refusal != OK {
         return coded(alloc, refusal);
     }
-    verify_beside(alloc, state, system, files)
+    verify_beside(alloc, state, system, known, files)
 }

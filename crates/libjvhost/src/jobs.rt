@@ -10,7 +10,7 @@ ghost use Rattle.libjvhost.specs.Inside.Jobs.{Does, IsPlaceIn};
 use crate::checking::check;
 use crate::codes::{HOST_MEMORY, NO_FILE, NO_GUEST, NO_PLACE, OK, admit_code, feed_code};
 use crate::done::{Done, coded, copied, numbered};
-use crate::judging::judge;
+use crate::judging::judge_knowing;
 use crate::room::{front_of, rest_of};
 use crate::told::{Guest, budget_of, files_of, seen_of, told_place, told_verdict};
 use jv_host::{GuestEnd, GuestId, Host, Observation, ThrowPlace};
@@ -224,7 +224,17 @@ pub(crate) fn do_job<'a>(
         Job::EndClass(id) => end(alloc, host, id),
         Job::Verdict(id, file) => verdict(alloc, host, id, file),
         Job::Place(id) => place(alloc, host, id),
-        Job::Check(files, room) => check(alloc, state, system, files, room),
-        Job::Judge(guest, n, room) => judge(alloc, state, system, guest, n, room),
+        Job::Check(files, room) => {
+            let mut known = host.known().about(system);
+            let done = check(alloc, state, system, &mut known, files, room);
+            host.know(known);
+            done
+        }
+        Job::Judge(guest, n, room) => {
+            let mut known = host.known().about(system);
+            let done = judge_knowing(alloc, state, system, &mut known, guest, n, room);
+            host.know(known);
+            done
+        }
     }
 }

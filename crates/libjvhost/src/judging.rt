@@ -13,7 +13,7 @@ use crate::codes::{HOST_MEMORY, admit_code};
 use crate::done::{Done, coded, copied};
 use crate::room::front_of;
 use crate::told::{Guest, budget_of, files_of, seen_of};
-use jv_host::{Budget, GuestFiles, GuestId, Host};
+use jv_host::{Budget, GuestFiles, GuestId, Host, KnownLibrary};
 use jv_loader::SystemFiles;
 use jv_store::Cells;
 use std::alloc::Global;
@@ -86,4 +86,26 @@ pub(crate) fn judge<'a>(
     let mut host = Host::new(alloc, state);
     let (files, budget) = (files_of(system, guest), budget_of(&guest));
     play(alloc, &mut host, files, budget, n, room)
+}
+
+/// The same where something is known of the library: that is used, and what is found of it is kept.
+pub(crate) fn judge_knowing<'k, 'a>(
+    alloc: Global,
+    state: RandomState,
+    system: &'k SystemFiles,
+    known: &mut KnownLibrary<'k>,
+    guest: Guest<'a>,
+    n: u32,
+    room: usize,
+) -> Done
+where
+    'k: 'a,
+    ensures { JudgesSo (files_told system.now guest.entry) (budget_told guest.entry) n room result }
+{
+    let mut host = Host::new(alloc, state);
+    host.know(known.about(system));
+    let (files, budget) = (files_of(system, guest), budget_of(&guest));
+    let done = play(alloc, &mut host, files, budget, n, room);
+    *known = host.known().about(system);
+    done
 }

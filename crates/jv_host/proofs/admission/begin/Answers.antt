@@ -13,16 +13,15 @@ pub new-requires-clause-files : goal.new-requires-clause-files
 new-requires-clause-files g c =
     let library = c.args.files.system.now in
     let files = map bytes_of c.args.files.files.now in
-    (library, files, c.in-Ok.ensures, (c.in-Ok-host_stands.ensures.stands library files c.in-Ok.ensures).0 c.if-not-stands.false)
+    (library, files, c.in-Ok.ensures, (c.in-Ok-stands.ensures.stands files c.in-Ok.ensures).0 c.if-not-stands.false)
 
 pub returns-then-not-stands-clause-why : goal.returns-then-not-stands-clause-why
 returns-then-not-stands-clause-why g c =
-    let library = c.args.files.system.now in
     let files = map bytes_of c.args.files.files.now in
     inr (
       refl,
       broken_beside c.judged_by_verdicts.ensures c.one_content.ensures (guest_of c.args.files) c.in-Ok.judged c.in-Ok.ensures (λ stand.
-          let yes = (c.in-Ok-host_stands.ensures.stands library files c.in-Ok.ensures).1 stand in
+          let yes = (c.in-Ok-stands.ensures.stands files c.in-Ok.ensures).1 stand in
           let no = c.if-not-stands.true in cc),
     )
 
@@ -39,4 +38,4 @@ returns-clause-begun g c =
       guest = c.in-Ok-new.guest;
     }) _ _
     c.new-2.ensures.items refl c.requires.input
-    (c.in-Ok-new.ensures.begun library files c.in-Ok.ensures ((c.in-Ok-host_stands.ensures.stands library files c.in-Ok.ensures).0 c.if-not-stands.false))
+    (c.in-Ok-new.ensures.begun library files c.in-Ok.ensures ((c.in-Ok-stands.ensures.stands files c.in-Ok.ensures).0 c.if-not-stands.false))

@@ -1,0 +1,2 @@
+mod Always
+mod Steps

@@ -1,0 +1,2 @@
+pub mod Inside
+pub use Rattle.jv_verify.specs.Files
