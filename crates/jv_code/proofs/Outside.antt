@@ -12,7 +12,7 @@ use Rattle.jv_code.specs.Inside.Shapes.{shape_at}
 use Rattle.jv_code.specs.Places.{all_fit}
 use Rattle.jv_code.specs.Inside.Reading.{insn, insn_read, operands}
 use Rattle.jv_format.specs.Numbers.{is_from_to}
-use Rattle.jv_code.specs.Unsupported.{moves_floats, computes_floats, is_unsupported, makes_floats, is_wide_float, front_unsupported, IsUnsupported, CodeIsSupported}
+use Rattle.jv_code.specs.Unsupported.{moves_floats, computes_floats, is_unsupported, makes_floats, is_wide_float, front_unsupported, IsUnsupported, IsUnsupportedAt, CodeIsSupported}
 use Rattle.jv_code.proofs.Tables.{all_below, one_below}
 use Rattle.jv_code.proofs.Laws.{insn_is}
 use Rattle.jv_code.proofs.Sizes.{size, size-cons, shorter}
@@ -152,8 +152,12 @@ Front-unsupported before bytes rest none front u =
       | inr a ↦ let same = same_end (0 + size u.before) a.0 u.rest rest (λ i after h e. outside (0 + size u.before) i u.rest after h e u.front) a.1 a.2 in rw (← same) u.front
     ]
 
-pub is_unsupported_at : (before : List Instruction) (bytes rest : List ℕ) → Front before bytes rest → IsTrue (front_unsupported rest) → IsUnsupported bytes
-is_unsupported_at before bytes rest front h = record { before = before; rest = rest; spelled = front.is; fit = front.fit; front = h }
+pub is_unsupported_at :
+    (before : List Instruction) (bytes rest : List ℕ) → Front before bytes rest → IsTrue (front_unsupported rest)
+    → IsUnsupportedAt bytes (length bytes - length rest)
+is_unsupported_at before bytes rest front h =
+    let place : length bytes - length rest ≡ size before = omega (arith, Front-place before bytes rest front) in
+    record { is = record { before = before; rest = rest; spelled = front.is; fit = front.fit; front = h }; place = place }
 
 -- behind all instructions of some code nothing is left
 pub code_is_supported : CodeIsSupported

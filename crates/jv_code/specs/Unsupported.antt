@@ -1,7 +1,7 @@
 -- Code that goes beyond the profile: instructions of the profile, and then one of the instructions of floating point
 -- numbers, monitors, dynamic calls and their kin that the JVMS has and the profile leaves out (own). jsr, ret, jsr_w and
 -- the opcodes from 202 on are ill formed and not among them (JVMS 4.9.1, 6.5).
-use Rattle.std.specs.Prelude.{◌≡◌, ℕ, Bool, false, ◌&&◌, ◌||◌, List, [], ◌∷◌, ◌++◌, IsTrue, ◌==◌}
+use Rattle.std.specs.Prelude.{◌≡◌, ℕ, Bool, false, ◌&&◌, ◌||◌, List, [], ◌∷◌, ◌++◌, length, IsTrue, ◌==◌}
 use Rattle.std.specs.List.{flat_map}
 use Rattle.jv_format.specs.Numbers.{is_from_to}
 use Rattle.jv_code.specs.Insns.{Instruction, insn_bytes}
@@ -45,6 +45,11 @@ pub record IsUnsupported (bytes : List ℕ) : Type 0 where
   pub spelled : bytes ≡ flat_map insn_bytes before ++ rest
   pub fit : IsTrue (all_fit 0 before)
   pub front : IsTrue (front_unsupported rest)
+
+-- and at which offset that one stands: the sum of the lengths before it
+pub record IsUnsupportedAt (bytes : List ℕ) (offset : ℕ) : Type 0 where
+  pub is : IsUnsupported bytes
+  pub place : offset ≡ length (flat_map insn_bytes is.before)
 
 -- A law: code has nothing outside the profile.
 abbrev pub CodeIsSupported : Type 0

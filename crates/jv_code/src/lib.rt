@@ -27,7 +27,7 @@ pub use law::{
     next_starts, one_at_offset, one_list, pairs_stand, stands_as_spelled, stands_in_list,
     starts_apart,
 };
-pub use profile::unsupported;
+pub use profile::{unsupported, unsupported_at};
 pub use starts::Starts;
 pub use successors::{falls_through, jump_distance};
 pub use switches::{distance_at, distance_for, first_distance, first_pair, pair_at};

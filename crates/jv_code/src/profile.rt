@@ -1,8 +1,8 @@
 //! Instructions outside the profile (JVMS 6.5, 7).
 
-ghost use Rattle.std.specs.Prelude.{◌≡◌, ◌↔◌, IsTrue, is_some};
+ghost use Rattle.std.specs.Prelude.{◌≡◌, ◌↔◌, IfNone, IfSome, IsTrue, is_some};
 ghost use Rattle.jv_code.specs.Inside.Shapes.{shape_at, is_outside};
-ghost use Rattle.jv_code.specs.Unsupported.{is_unsupported, makes_floats, is_wide_float, front_unsupported, IsUnsupported};
+ghost use Rattle.jv_code.specs.Unsupported.{is_unsupported, makes_floats, is_wide_float, front_unsupported, IsUnsupported, IsUnsupportedAt};
 
 use crate::code::behind_insn;
 use crate::shapes::shape_of;
@@ -49,15 +49,27 @@ fn front_unsupported(bytes: &[u8]) -> bool
     }
 }
 
-/// Whether the bytes begin with instructions of the profile, followed by one outside it: by an
-/// opcode of float, double, `invokedynamic` or monitors, by `newarray` of float or double, or by
-/// `wide` before such a local. It goes over the bytes once.
-pub fn unsupported(bytes: &[u8]) -> bool
-    ensures { IsTrue result ↔ IsUnsupported bytes.now }
+/// Where the first instruction stands that the profile leaves out, behind instructions of the profile alone: an opcode of float,
+/// double, `invokedynamic` or monitors, `newarray` of float or double, or `wide` before such a local; `None` where there is none. It
+/// goes over the bytes once.
+pub fn unsupported_at(bytes: &[u8]) -> Option<usize>
+    ensures found { IfSome result (IsUnsupportedAt bytes.now) }
+    ensures none { IfNone result (IsUnsupported bytes.now → ⊥) }
 {
     let mut rest = bytes;
     while let Some(after) = behind_insn(bytes.len() - rest.len(), rest) {
         rest = after;
     }
-    front_unsupported(rest)
+    if front_unsupported(rest) {
+        Some(bytes.len() - rest.len())
+    } else {
+        None
+    }
+}
+
+/// Whether the bytes begin with instructions of the profile, followed by one outside it.
+pub fn unsupported(bytes: &[u8]) -> bool
+    ensures { IsTrue result ↔ IsUnsupported bytes.now }
+{
+    unsupported_at(bytes).is_some()
 }

@@ -42,6 +42,21 @@ firsts_new pool i m n t here none updates h =
         (here ∙ ap (λ (x : List ℕ). Some x) same, λ j lt is. below j lt (is ∙ ap (λ (x : List ℕ). Some x) (sym same)))
     chosen below q false e = next pool i q (first_in m q) (λ o is. let yes : bytes_eq t q ≡ true = (bytes_eq-Decides t q).1 (same_Some t q (sym here ∙ is)) in cc) (h q)
 
+-- one that was there, whose index took the place of a new one again
+pub firsts_back :
+    (pool : List Entry) (i : ℕ) (m n k : BTreeMap (Bor (List ℕ)) ℕ) (t : List ℕ) (f : ℕ) → utf8_at pool i ≡ Some t → first_in m t ≡ Some f
+    → ((q : List ℕ) → first_in n q ≡ cond (bytes_eq t q) (Some i) (first_in m q))
+    → ((q : List ℕ) → first_in k q ≡ cond (bytes_eq t q) (Some f) (first_in n q)) → AreFirsts pool i m → IsFirst pool i f × AreFirsts pool (i + 1) k
+firsts_back pool i m n k t f here found put back h =
+    let known = firsts_known pool i m t f here found h in
+    (known.0, λ q. subst (λ (o : Option ℕ). IsFirstBelow pool (i + 1) q o) (sym (same q (bytes_eq t q) refl)) (known.1 q))
+  where
+    same : (q : List ℕ) (b : Bool) → bytes_eq t q ≡ b → first_in k q ≡ first_in m q
+    same q true e =
+        back q ∙ ap (λ (b : Bool). cond b (Some f) (first_in n q)) e ∙ sym found ∙ ap (first_in m) ((bytes_eq-Decides t q).0 e)
+    same q false e =
+        back q ∙ ap (λ (b : Bool). cond b (Some f) (first_in n q)) e ∙ put q ∙ ap (λ (b : Bool). cond b (Some i) (first_in m q)) e
+
 -- ---- the list of them
 
 pub AlikeBelow-push : (pool : List Entry) (i : ℕ) (alike : List ℕ) (new : ℕ) → IsAlike pool i (utf8_at pool i) (Some new) → AlikeBelow pool i alike → AlikeBelow pool (i + 1) (alike ++ new ∷ [])

@@ -24,11 +24,12 @@ fn first_of<'a>(
     let Some(text) = table.utf8(index) else {
         return Ok(index);
     };
-    if let Some(first) = firsts.get(&text).copied() {
-        return Ok(first);
-    }
-    firsts.insert(text, index)?;
-    Ok(index)
+    // (few files have a text twice: so it is put there at once, and what it took the place of is put back)
+    let Some(first) = firsts.insert(text, index)? else {
+        return Ok(index);
+    };
+    firsts.insert(text, first)?;
+    Ok(first)
 }
 
 /// The least index of the text at each index, and any number where there is none.

@@ -127,6 +127,7 @@ impl<'a> Pool<'a> {
     }
 
     /// The number as the index of an Integer constant (4.4.4); `None` where it names none.
+    #[inline]
     pub fn integer_index(&self, index: u16) -> Option<IntegerIndex>
         ensures same { IfSome result (λ i. i.0 ≡ index) }
         ensures names { IfSome result (λ i. IsSome (integer_at self.now i.0)) }
@@ -302,6 +303,7 @@ impl<'a> Pool<'a> {
     }
 
     /// The number of an Integer constant, in two's complement (4.4.4).
+    #[inline]
     pub fn integer(&self, index: IntegerIndex) -> i32
         requires { IsSome (integer_at self.now index.0) }
         ensures { option_map (cast_signed w32) (integer_at self.now index.0) ≡ Some result }
