@@ -4,8 +4,8 @@ import java.util.function.BiFunction;
 import java.util.function.Function;
 
 /**
- * A map by hash codes. Its table has the lengths, and so its entries the order, of the JDK's, but where nine keys or more share a place:
- * the JDK makes a tree of those.
+ * A map by hash codes. Its table has the lengths, and so its entries the order, of the JDK's, but where nine keys or more share one of 64
+ * places or more: the JDK makes a tree of those.
  */
 public class HashMap<K, V> extends EntryMap<K, V> implements Map<K, V>, Cloneable, java.io.Serializable {
     private static final int MOST = 1 << 30;
@@ -95,7 +95,7 @@ public class HashMap<K, V> extends EntryMap<K, V> implements Map<K, V>, Cloneabl
         if (old != null) {
             return old.setValue(value);
         }
-        append(table, made(hash, key, value));
+        spread(append(table, made(hash, key, value)), 8);
         changes++;
         count++;
         if (count > limit && table.length < MOST) {
@@ -119,16 +119,27 @@ public class HashMap<K, V> extends EntryMap<K, V> implements Map<K, V>, Cloneabl
         super.putAll(map);
     }
 
-    private static <K, V> void append(Node<K, V>[] table, Node<K, V> n) {
+    /** Says how many nodes stand before the new one in its place. */
+    private static <K, V> int append(Node<K, V>[] table, Node<K, V> n) {
         int at = n.hash & table.length - 1;
         if (table[at] == null) {
             table[at] = n;
-        } else {
-            Node<K, V> last = table[at];
-            while (last.next != null) {
-                last = last.next;
-            }
-            last.next = n;
+            return 0;
+        }
+        int before = 1;
+        Node<K, V> last = table[at];
+        while (last.next != null) {
+            last = last.next;
+            before++;
+        }
+        last.next = n;
+        return before;
+    }
+
+    /** Grows a table of fewer than 64 places where as many nodes stood in that of a new one as the JDK makes a tree of. */
+    private void spread(int before, int many) {
+        if (before >= many && table.length < 64) {
+            grow(2 * table.length);
         }
     }
 
@@ -138,6 +149,11 @@ public class HashMap<K, V> extends EntryMap<K, V> implements Map<K, V>, Cloneabl
         int place = n.hash & table.length - 1;
         n.next = table[place];
         table[place] = n;
+        int before = 0;
+        for (Node<K, V> m = n.next; m != null; m = m.next) {
+            before++;
+        }
+        spread(before, 7);
         changes++;
         count++;
         came();
