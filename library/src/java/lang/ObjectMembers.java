@@ -27,6 +27,8 @@ public final class ObjectMembers {
             : o instanceof java.util.LinkedHashMap ? "java.util.LinkedHashMap"
             : o instanceof java.util.HashMap ? "java.util.HashMap"
             : o instanceof java.util.TreeMap ? "java.util.TreeMap"
+            : o instanceof java.util.Hashtable ? "java.util.Hashtable"
+            : o instanceof Thread ? "java.lang.Thread"
             : o instanceof Class ? "java.lang.Class"
             : o instanceof int[] ? "[I"
             : o instanceof long[] ? "[J"
@@ -85,6 +87,7 @@ public final class ObjectMembers {
             : t instanceof NumberFormatException ? "java.lang.NumberFormatException"
             : t instanceof java.util.regex.PatternSyntaxException ? "java.util.regex.PatternSyntaxException"
             : t instanceof java.util.IllegalFormatException ? formatExceptionName(t)
+            : t instanceof IllegalThreadStateException ? "java.lang.IllegalThreadStateException"
             : t instanceof IllegalArgumentException ? "java.lang.IllegalArgumentException"
             : t instanceof IllegalStateException ? "java.lang.IllegalStateException"
             : t instanceof UnsupportedOperationException ? "java.lang.UnsupportedOperationException"

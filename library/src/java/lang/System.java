@@ -180,7 +180,7 @@ public final class System {
     }
 
     /** What ends a guest; nothing catches it but what catches any Throwable. */
-    private static final class Exit extends Error {
+    static final class Exit extends Error {
     }
 
     public static String getProperty(String name, String other) {
