@@ -16,16 +16,8 @@ use jv_interp_words::Registers;
 use jv_link::class_at;
 use jv_loader::Classes;
 use jv_meaning_machine::execution_keeps;
+use jv_pool::Constant;
 use jv_store::Store;
-
-/// The lower and the higher half of a long.
-#[inline(always)]
-fn halves(value: i64) -> (u32, u32)
-    ensures { long_of result.0 result.1 ≡ value }
-{
-    let bits = value.cast_unsigned();
-    ((bits % 4_294_967_296) as u32, (bits / 4_294_967_296) as u32)
-}
 
 /// The halves of the long at an index of the class with a number, where one is there.
 #[inline(always)]
@@ -36,10 +28,9 @@ fn long_constant<'a>(classes: &Classes<'a>, class: usize, index: u16) -> Option<
     let Some(file) = class_at(classes.table(), class).file() else {
         return None;
     };
-    let pool = file.pool();
-    match pool.long_index(index) {
-        Some(number) => Some(halves(pool.long(number))),
-        None => None,
+    match file.pool().constant(index) {
+        Some(Constant::Long(high, low)) => Some((low, high)),
+        _ => None,
     }
 }
 

@@ -18,6 +18,7 @@ use jv_interp_words::Registers;
 use jv_link::class_at;
 use jv_loader::Classes;
 use jv_meaning_machine::execution_keeps;
+use jv_pool::Constant;
 use jv_store::{OutOfMemory, Store};
 
 /// A constant of one word that can be pushed (JVMS 6.5, ldc): an int by its bits, or the text of a string.
@@ -145,10 +146,9 @@ fn int_of(classes: &Classes<'_>, class: usize, index: u16) -> Option<u32>
     let Some(file) = class_at(classes.table(), class).file() else {
         return None;
     };
-    let pool = file.pool();
-    match pool.integer_index(index) {
-        Some(number) => Some(pool.integer(number).cast_unsigned()),
-        None => None,
+    match file.pool().constant(index) {
+        Some(Constant::Integer(bits)) => Some(bits),
+        _ => None,
     }
 }
 

@@ -25,12 +25,6 @@ use Rattle.jv_interp_steps.specs.Stepping.{RunsOn}
 use Rattle.jv_interp_steps.specs.Running.{Leads, IsSafe, RunsIn, RanOn}
 use Rattle.jv_interp_steps.proofs.Runs.{bound_again, leads_on, safe_later, some_frame, runs_join}
 
--- ---- where the answer is not 0, some are left
-
-pub some_of : (n : ℕ) → (n ≡ 0 → ⊥) → 0 < n
-some_of zero some = absurd (some refl)
-some_of (suc n) some = omega arith
-
 -- ---- no number of steps meets a fault
 
 reached : (program : Program) (s : State) → IsSafe program s → (n : ℕ) → (t : State) × (after_steps program n s ≡ Ok t)

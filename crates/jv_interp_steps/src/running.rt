@@ -68,10 +68,8 @@ fn run_method<'a, 'l, S: Store>(
     let mut left = n;
     let mut rest = 0;
     while left > 0 {
-        // (one at a time: so there is one loop, into which no instruction has to come anew)
-        if run_alone(frames, &mut now, 1, &mut rest) == 0 {
-            left -= 1;
-        } else {
+        left = run_alone(frames, &mut now, left, &mut rest);
+        if left > 0 {
             match step_in_method(
                 classes, linked, methods, texts, verified, frames, control, held, store, &mut now,
                 rest,
