@@ -32,16 +32,16 @@ none_broken world None OtherVersion fault not h = h
 none_broken world None NoClassFile fault not h = h
 none_broken world None MoreThanProfile fault not h = h
 
-module _ (law : OneContent) (bytes : List ℕ) (fault : VerifyFault) (frames text : List ℕ) (world : World) (why : Option LoadVerdict) (content : FileContent)
+module _ (law : OneContent) (bytes : List ℕ) (fault : VerifyFault) (above frames text : List ℕ) (world : World) (why : Option LoadVerdict) (content : FileContent)
     (is : IsContent bytes content) (verdict : IsVerdictOfContent world why (Some content) (Verify fault)) where
-  pub held : (file : ClassStructure) → IsSomeAnd (content_of (Holds file)) (IsContent bytes) → ExplainsIn file fault frames text → IsExplanation content (Verify fault) frames text
+  pub held : (file : ClassStructure) → IsSomeAnd (content_of (Holds file)) (IsContent bytes) → ExplainsIn file fault above frames text → IsExplanation content (Verify fault) above frames text
   held file read explains = by_class (class_of file) refl read
     where
-      by_class : (o : Option Class) → class_of file ≡ o → IsSomeAnd (option_map Holds o) (IsContent bytes) → IsExplanation content (Verify fault) frames text
+      by_class : (o : Option Class) → class_of file ≡ o → IsSomeAnd (option_map Holds o) (IsContent bytes) → IsExplanation content (Verify fault) above frames text
       by_class None e h = absurd h
       by_class (Some class) e h =
           let same : Holds class ≡ content = law bytes (Holds class) content h is in
-          subst (λ (c : FileContent). IsExplanation c (Verify fault) frames text) same
+          subst (λ (c : FileContent). IsExplanation c (Verify fault) above frames text) same
           (explains world (loaded false class) e
           (first_of world class why fault (subst (λ (c : FileContent). IsVerdictOfContent world why (Some c) (Verify fault)) (sym same) verdict)))
 

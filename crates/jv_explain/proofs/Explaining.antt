@@ -13,11 +13,11 @@ use Rattle.jv_explain.proofs.Named.{IsShownAs, same_pool, shown_at}
 use Rattle.jv_explain.proofs.Standing.{stands_at}
 
 pub explained : StandsInList → (file : ClassStructure) (fault : VerifyFault) (shown : MethodSeen) (line : Option ℕ) (k : ℕ)
-    (name descriptor place frames text : List ℕ)
+    (name descriptor above place frames text : List ℕ)
     → Some shown ≡ slice_get (methods_of file) k → k ≡ fault.method → utf8_at file.constant_pool shown.name_index ≡ Some name
     → utf8_at file.constant_pool shown.descriptor_index ≡ Some descriptor → ShowsFaultIn file.constant_pool shown fault line place
-    → text ≡ named_text fault.method name descriptor ++ place ++ frames ++ broken_text fault.rule → ExplainsIn file fault frames text
-explained law file fault shown line k name descriptor place frames text is at named described shows told = λ world l of first.
+    → text ≡ named_text fault.method name descriptor ++ above ++ place ++ frames ++ broken_text fault.rule → ExplainsIn file fault above frames text
+explained law file fault shown line k name descriptor above place frames text is at named described shows told = λ world l of first.
     let (x, there, as_shown) = shown_at file l.class of fault.method first.method first.at in
     let both : Some shown ≡ Some x = is ∙ (ap (slice_get (methods_of file)) at ∙ there) in
     let one : x ≡ shown = cc in
@@ -34,6 +34,6 @@ explained law file fault shown line k name descriptor place frames text is at na
       shown = shows l first.method (same_pool file l.class of) mine.code (stands_at law (declared_by l first.method) fault.offset world fault.rule first.breaks);
       told =
           told
-          ∙ (ap (λ (t : List ℕ). named_text fault.method t descriptor ++ place ++ frames ++ broken_text fault.rule) name_is
-          ∙ ap (λ (t : List ℕ). named_text fault.method first.method.name t ++ place ++ frames ++ broken_text fault.rule) descriptor_is);
+          ∙ (ap (λ (t : List ℕ). named_text fault.method t descriptor ++ above ++ place ++ frames ++ broken_text fault.rule) name_is
+          ∙ ap (λ (t : List ℕ). named_text fault.method first.method.name t ++ above ++ place ++ frames ++ broken_text fault.rule) descriptor_is);
     }

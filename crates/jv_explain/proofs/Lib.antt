@@ -1,4 +1,5 @@
 pub mod Blaming
+pub mod BrokenFinals
 pub mod Contents
 pub mod Explaining
 pub mod Named

@@ -38,17 +38,17 @@ ShowsPlace site pc line rules.HandlerTable text = text ≡ []
 ShowsPlace site pc line rules.MapFrames text = text ≡ []
 ShowsPlace site pc line rule text = ShowsInstruction site pc line text
 
--- the method, the place, the text of the frames there, and the rule; and the line of source of the instruction, as the file may say it
--- (4.7.12), which no definition here speaks of
-pub record ExplainsFault (l : Loaded) (fault : VerifyFault) (frames text : List ℕ) : Type 0 where
+-- the method, the text of what stands above the place, the place, the text of the frames there, and the rule; and the line of source of
+-- the instruction, as the file may say it (4.7.12), which no definition here speaks of
+pub record ExplainsFault (l : Loaded) (fault : VerifyFault) (above frames text : List ℕ) : Type 0 where
   pub method : Method
   pub at : slice_get l.class.methods fault.method ≡ Some method
   pub line : Option ℕ
   pub place : List ℕ
   pub shown : ShowsPlace (declared_by l method) fault.offset line fault.rule place
-  pub told : text ≡ method_text fault.method method ++ place ++ frames ++ broken_text fault.rule
+  pub told : text ≡ method_text fault.method method ++ above ++ place ++ frames ++ broken_text fault.rule
 
--- of a class whose method breaks a rule, with the text of the frames there, and of nothing else
-abbrev pub IsExplanation : FileContent → Verdict → (frames text : List ℕ) → Type 0
-IsExplanation (Holds class) (Verify fault) frames text = ExplainsFault (loaded false class) fault frames text
-IsExplanation content verdict frames text = text ≡ []
+-- of a class whose method breaks a rule, with the texts of what stands above and of the frames there, and of nothing else
+abbrev pub IsExplanation : FileContent → Verdict → (above frames text : List ℕ) → Type 0
+IsExplanation (Holds class) (Verify fault) above frames text = ExplainsFault (loaded false class) fault above frames text
+IsExplanation content verdict above frames text = text ≡ []

@@ -1,2 +1,3 @@
 pub mod Blamed
+pub mod Overridden
 pub mod Said

@@ -1,4 +1,5 @@
 pub mod Explained
+pub mod Finals
 pub mod Inside
 pub mod Supers
 pub mod Text

@@ -1,4 +1,4 @@
--- The direct super that a class is refused for (JVMS 5.3.5, 4.10), as text (own).
+-- The direct super, or the final method, that a class is refused for (JVMS 5.3.5, 4.10), as text (own).
 use Rattle.std.specs.Prelude.{◌≡◌, ℕ, Bool, true, false, not, ◌||◌, is_some, List, [], ◌∷◌, ◌++◌, codes, map, Option, Some, None, if◌then◌else◌}
 use Rattle.std.specs.List.{find}
 use Rattle.std.specs.Str.{bytes_eq}
@@ -12,6 +12,7 @@ use Rattle.jv_meaning_world.specs.World.{Loaded, World, can_name, class_named}
 use Rattle.jv_meaning_world.specs.declared.verdict.LoadVerdict.{LoadVerdict}
 use Rattle.jv_meaning_world.specs.declared.verdict.LoadVerdict.TheVariants.{Circular, NoSuper, WrongKind, NoAccess, FinalBroken}
 use Rattle.jv_program_base.specs.Escape.{escaped_text}
+use Rattle.jv_explain.specs.Finals.{finals_text}
 use Rattle.jv_explain.specs.declared.supers.SuperFault.{SuperFault}
 use Rattle.jv_explain.specs.declared.supers.SuperFault.TheVariants.{Missing, Unloadable, Below, Interface, NoInterface, Closed, Final}
 
@@ -76,9 +77,9 @@ blamed_text world l why (Some s) = line_text s (super_fault world l why s)
 abbrev pub supers_text : World → LoadVerdict → Option Loaded → List ℕ
 supers_text world why None = []
 supers_text world why (Some l) =
-    blamed_text world l why (find (λ s. is_some (super_fault world l why s)) (direct_supers l.class))
+    blamed_text world l why (find (λ s. is_some (super_fault world l why s)) (direct_supers l.class)) ++ finals_text world why l
 
--- of the class of this name in the world; nothing where no direct super is blamed
+-- of the class of this name in the world: the direct super that is blamed, and the final method that is overridden, where there are these
 abbrev pub refusal_text : World → (name : List ℕ) → LoadVerdict → List ℕ
 refusal_text world name why = supers_text world why (class_named world name)
 

@@ -44,19 +44,23 @@ fn place_in<'a>(
     }
 }
 
-/// What is said of a method with these texts, of the place where it breaks a rule, of the frames there, and of the rule.
+/// What is said of a method with these texts, of what stands above the place where it breaks a rule, of the place, of the frames there,
+/// and of the rule.
 fn told(
     alloc: Global,
     method: ShownMethod<'_>,
+    above: &str,
     place: &str,
     frames: &str,
     rule: VerifyRule,
 ) -> Result<String, AllocError>
     ensures { IfOk result (λ text. string_bytes text
-        ≡ named_text method.entry.number method.entry.name.now method.entry.descriptor.now ++ place.now ++ frames.now ++ broken_text rule) }
+        ≡ named_text method.entry.number method.entry.name.now method.entry.descriptor.now
+        ++ above.now ++ place.now ++ frames.now ++ broken_text rule) }
 {
     let shown = ShownFault {
         method,
+        above,
         place,
         frames,
         rule,
@@ -70,15 +74,16 @@ fn line_at(alloc: Global, bytes: &[u8], fault: VerifyFault) -> Option<u16> {
     lines.at(usize::from(fault.method), fault.offset)
 }
 
-/// What is said of the first fault of the class of a file with these bytes, with the text of the frames there.
+/// What is said of the first fault of the class of a file with these bytes, with the texts of what stands above and of the frames there.
 pub(crate) fn explain_in(
     alloc: Global,
     bytes: &[u8],
     file: &ClassFile<'_>,
     fault: VerifyFault,
+    above: &str,
     frames: &str,
 ) -> Result<String, AllocError>
-    ensures { IfOk result (λ text. ExplainsIn file.now fault frames.now (string_bytes text)) }
+    ensures { IfOk result (λ text. ExplainsIn file.now fault above.now frames.now (string_bytes text)) }
 {
     stands_in_list();
     let Some(method) = file.method(usize::from(fault.method)) else {
@@ -91,5 +96,5 @@ pub(crate) fn explain_in(
         name: file.pool().utf8(method.name),
         descriptor: file.pool().utf8(method.descriptor),
     };
-    told(alloc, named, &place, frames, fault.rule)
+    told(alloc, named, above, &place, frames, fault.rule)
 }

@@ -13,9 +13,9 @@ use jv_meaning_typing::Verdict;
 use jv_meaning_world::{Content, one_content};
 use std::alloc::Global;
 
-/// What is said of a file with these bytes behind the verdict on it: of one whose class's method breaks a rule the method, the
-/// instruction, with its line of source where the file says it, the frames there, of which this is the text, and the rule (JVMS 4.10.1),
-/// and of others nothing.
+/// What is said of a file with these bytes behind the verdict on it: of one whose class's method breaks a rule the method, what stands
+/// above the instruction, the instruction, with its line of source where the file says it, the frames there, and the rule (JVMS 4.10.1),
+/// and of others nothing. What stands above and the frames are these texts.
 ///
 /// # Errors
 ///
@@ -24,17 +24,18 @@ pub fn explain_file(
     alloc: Global,
     bytes: &[u8],
     verdict: Verdict,
+    above: &str,
     frames: &str,
 ) -> Result<String, OutOfMemory>
     ensures { IfOk result (λ text. (world : World) (why : Option LoadVerdict) (content : FileContent) → IsContent bytes.now content
-        → IsVerdictOfContent world why (Some content) verdict → IsExplanation content verdict frames.now (string_bytes text)) }
+        → IsVerdictOfContent world why (Some content) verdict → IsExplanation content verdict above.now frames.now (string_bytes text)) }
 {
     one_content();
     let Verdict::Verify(fault) = verdict else {
         return Ok(String::new(alloc));
     };
     match read_content(alloc, bytes)? {
-        Content::Holds(file) => Ok(explain_in(alloc, bytes, &file, fault, frames)?),
+        Content::Holds(file) => Ok(explain_in(alloc, bytes, &file, fault, above, frames)?),
         _ => Ok(String::new(alloc)),
     }
 }

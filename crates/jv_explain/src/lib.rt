@@ -4,6 +4,7 @@
 
 mod fault;
 mod file;
+mod finals;
 mod place;
 mod room;
 mod supers;

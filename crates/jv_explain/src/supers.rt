@@ -1,4 +1,4 @@
-//! Which direct super a class is refused for.
+//! Which direct super, or which final method of a superclass, a class is refused for.
 
 ghost use Rattle.std.specs.Prelude.{◌≡◌, ◌||◌, ◌<◌, Some, IfOk, length, string_bytes};
 ghost use Rattle.std.specs.Option.{option_map};
@@ -10,6 +10,7 @@ ghost use Rattle.jv_meaning_world.specs.World.{class_named};
 ghost use Rattle.jv_explain.specs.Inside.Blamed.{blamed_in, blamed_line, found_text};
 ghost use Rattle.jv_explain.specs.Supers.{IsRefusalTold, fault_if, fault_of, fault_text, refusal_text};
 
+use crate::finals::finals_told;
 use jv_loader::{ClassTable, Classes, LoadVerdict, OutOfMemory, read_content};
 use jv_meaning_world::{Content, one_content};
 use jv_program_base::Escaped;
@@ -170,6 +171,22 @@ fn first_blamed<'t>(table: &'t ClassTable<'_>, class: usize, why: LoadVerdict) -
     None
 }
 
+/// What is said of the direct super that a verdict on a class blames, where it blames one.
+fn blamed_told(
+    alloc: Global,
+    table: &ClassTable<'_>,
+    class: usize,
+    why: LoadVerdict,
+) -> Result<String, AllocError>
+    requires { class < length table.now }
+    ensures { IfOk result (λ text. HoldsAtNumber table.now class (λ l. string_bytes text ≡ blamed_in table.now l why)) }
+{
+    match first_blamed(table, class, why) {
+        Some(shown) => shown.to_string(alloc),
+        None => Ok(String::new(alloc)),
+    }
+}
+
 /// What is said of a verdict on the class of this name, which came before its methods were looked at.
 fn explain_class(
     alloc: Global,
@@ -183,14 +200,16 @@ fn explain_class(
     let Some(class) = table.find(name) else {
         return Ok(String::new(alloc));
     };
-    match first_blamed(table, class, why) {
-        Some(shown) => shown.to_string(alloc),
-        None => Ok(String::new(alloc)),
-    }
+    let mut text = blamed_told(alloc, table, class, why)?;
+    let finals = finals_told(alloc, table, class, why)?;
+    text.push_str(&finals)?;
+    Ok(text)
 }
 
 /// What is said of a file with these bytes whose class is refused among these before its methods were looked at: the first direct super
-/// that the verdict is about, and what is wrong with it (JVMS 5.3.5, 4.10), where the verdict is about one; else nothing.
+/// that the verdict is about, and what is wrong with it (JVMS 5.3.5, 4.10), where it is about one, and the first final method of a
+/// superclass that the class overrides itself (5.4.5), where it is about these; else nothing. It costs a look-up for each final method of
+/// the superclasses.
 ///
 /// # Errors
 ///

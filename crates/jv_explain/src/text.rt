@@ -40,10 +40,11 @@ pub struct ShownPlace<'p, 'a> {
     pub insn: Insn<&'a [u8]>,
 }
 
-/// What is said of a fault: of the method, of the place, of the frames there, and of the rule.
+/// What is said of a fault: of the method, of what stands above the place, of the place, of the frames there, and of the rule.
 #[derive(Clone, Copy)]
 pub(crate) struct ShownFault<'p, 'a> {
     pub(crate) method: ShownMethod<'a>,
+    pub(crate) above: &'p str,
     pub(crate) place: &'p str,
     pub(crate) frames: &'p str,
     pub(crate) rule: VerifyRule,
@@ -88,13 +89,14 @@ impl fmt::Display for ShownPlace<'_, '_> {
 
 impl fmt::Display for ShownFault<'_, '_> {
     ghost output = { λ fault. Some (named_text fault.method.number fault.method.name.now fault.method.descriptor.now
-        ++ fault.place.now ++ fault.frames.now ++ broken_text fault.rule) };
+        ++ fault.above.now ++ fault.place.now ++ fault.frames.now ++ broken_text fault.rule) };
 
     fn fmt<W: fmt::Write>(&self, f: &mut fmt::Formatter<W>) -> fmt::Result {
         let method = self.method;
+        let above = self.above;
         let place = self.place;
         let frames = self.frames;
         let rule = ShownRule(self.rule);
-        write!(f, "{method}{place}{frames}  breaks {rule}\n")
+        write!(f, "{method}{above}{place}{frames}  breaks {rule}\n")
     }
 }

@@ -1,5 +1,5 @@
 -- Files one after another.
-use Rattle.std.proofs.Common.{◌≡◌, ℕ, zero, suc, ◌+◌, ◌≤◌, List, [], ◌∷◌, ◌++◌, length, drop, min, Some, refl, sym, ap, ◌∙◌, append_assoc, append-nil, arith, ◌⊎◌, inl, inr}
+use Rattle.std.proofs.Common.{◌≡◌, ℕ, zero, suc, ◌+◌, ◌≤◌, List, [], ◌∷◌, ◌++◌, length, drop, min, Option, Some, refl, sym, ap, ◌∙◌, append_assoc, append-nil, arith, ◌⊎◌, inl, inr}
 use Rattle.std.specs.Prelude.{slice_get}
 use Rattle.std.proofs.lemmas.Bool.{cases_lt}
 use Rattle.serde_json.specs.Data.{Data}
@@ -45,49 +45,71 @@ files-all k names verdicts all values (inr h) before =
     let end : file_values (drop k names) (drop k verdicts) ≡ [] = rw (none verdicts k h) (no_verdicts (drop k names)) in
     sym (append-nil values) ∙ ap (λ (l : List Data). values ++ l) (sym end) ∙ before
 
-none_explained : (names : List (List ℕ)) (said : List (List ℕ)) → explained_values names [] said ≡ []
+none_explained : (names : List (List ℕ)) (lines : List (Option ℕ)) (said : List (List ℕ)) → explained_values names [] lines said ≡ []
 unfolding explained_values
-none_explained [] said = refl
-none_explained (name ∷ names) said = refl
+none_explained [] lines said = refl
+none_explained (name ∷ names) lines said = refl
 
-none_said : (names : List (List ℕ)) (verdicts : List Verdict) → explained_values names verdicts [] ≡ []
+no_lines : (names : List (List ℕ)) (verdicts : List Verdict) (said : List (List ℕ)) → explained_values names verdicts [] said ≡ []
 unfolding explained_values
-none_said [] verdicts = refl
-none_said (name ∷ names) [] = refl
-none_said (name ∷ names) (verdict ∷ verdicts) = refl
+no_lines [] verdicts said = refl
+no_lines (name ∷ names) [] said = refl
+no_lines (name ∷ names) (verdict ∷ verdicts) said = refl
 
-pub explained-more : (k : ℕ) (names : List (List ℕ)) (verdicts : List Verdict) (said : List (List ℕ)) (all values : List Data) (name : List ℕ) (verdict : Verdict)
-    (text : List ℕ) → slice_get names k ≡ Some name → slice_get verdicts k ≡ Some verdict → slice_get said k ≡ Some text
-    → values ++ explained_values (drop k names) (drop k verdicts) (drop k said) ≡ all
-    → (values ++ explained_value name verdict text ∷ []) ++ explained_values (drop (k + 1) names) (drop (k + 1) verdicts) (drop (k + 1) said) ≡ all
+none_said : (names : List (List ℕ)) (verdicts : List Verdict) (lines : List (Option ℕ)) → explained_values names verdicts lines [] ≡ []
 unfolding explained_values
-explained-more k names verdicts said all values name verdict text e f g before =
+none_said [] verdicts lines = refl
+none_said (name ∷ names) [] lines = refl
+none_said (name ∷ names) (verdict ∷ verdicts) [] = refl
+none_said (name ∷ names) (verdict ∷ verdicts) (line ∷ lines) = refl
+
+pub explained-more : (k : ℕ) (names : List (List ℕ)) (verdicts : List Verdict) (lines : List (Option ℕ)) (said : List (List ℕ)) (all values : List Data) (name : List ℕ)
+    (verdict : Verdict) (line : Option ℕ) (text : List ℕ) → slice_get names k ≡ Some name → slice_get verdicts k ≡ Some verdict → slice_get lines k ≡ Some line
+    → slice_get said k ≡ Some text → values ++ explained_values (drop k names) (drop k verdicts) (drop k lines) (drop k said) ≡ all
+    → (values ++ explained_value name verdict line text ∷ []) ++ explained_values (drop (k + 1) names) (drop (k + 1) verdicts) (drop (k + 1) lines) (drop (k + 1) said) ≡ all
+unfolding explained_values
+explained-more k names verdicts lines said all values name verdict line text e f g h before =
     let next : k + 1 ≡ suc k = omega arith in
-    let rest : explained_values (drop k names) (drop k verdicts) (drop k said)
-    ≡ explained_value name verdict text ∷ explained_values (drop (suc k) names) (drop (suc k) verdicts) (drop (suc k) said) =
-    rw (from names k name e, from verdicts k verdict f, from said k text g) refl in
-    rw next (append_assoc values (explained_value name verdict text ∷ []) _ ∙ ap (λ (l : List Data). values ++ l) (sym rest) ∙ before)
+    let rest : explained_values (drop k names) (drop k verdicts) (drop k lines) (drop k said)
+    ≡ explained_value name verdict line text ∷ explained_values (drop (suc k) names) (drop (suc k) verdicts) (drop (suc k) lines) (drop (suc k) said) =
+    rw (from names k name e, from verdicts k verdict f, from lines k line g, from said k text h) refl in
+    rw next (append_assoc values (explained_value name verdict line text ∷ []) _ ∙ ap (λ (l : List Data). values ++ l) (sym rest) ∙ before)
 
-pub explained-all : (k : ℕ) (names : List (List ℕ)) (verdicts : List Verdict) (said : List (List ℕ)) (all values : List Data)
-    → (length names ≤ k) ⊎ ((length verdicts ≤ k) ⊎ (length said ≤ k))
-    → values ++ explained_values (drop k names) (drop k verdicts) (drop k said) ≡ all → values ≡ all
+pub explained-all : (k : ℕ) (names : List (List ℕ)) (verdicts : List Verdict) (lines : List (Option ℕ)) (said : List (List ℕ)) (all values : List Data)
+    → (length names ≤ k) ⊎ ((length verdicts ≤ k) ⊎ ((length lines ≤ k) ⊎ (length said ≤ k)))
+    → values ++ explained_values (drop k names) (drop k verdicts) (drop k lines) (drop k said) ≡ all → values ≡ all
 unfolding explained_values
-explained-all k names verdicts said all values (inl h) before =
-    let end : explained_values (drop k names) (drop k verdicts) (drop k said) ≡ [] = rw (none names k h) refl in
+explained-all k names verdicts lines said all values (inl h) before =
+    let end : explained_values (drop k names) (drop k verdicts) (drop k lines) (drop k said) ≡ [] = rw (none names k h) refl in
     sym (append-nil values) ∙ ap (λ (l : List Data). values ++ l) (sym end) ∙ before
-explained-all k names verdicts said all values (inr (inl h)) before =
-    let end : explained_values (drop k names) (drop k verdicts) (drop k said) ≡ [] = rw (none verdicts k h) (none_explained (drop k names) (drop k said)) in
+explained-all k names verdicts lines said all values (inr (inl h)) before =
+    let end : explained_values (drop k names) (drop k verdicts) (drop k lines) (drop k said) ≡ [] =
+    rw (none verdicts k h) (none_explained (drop k names) (drop k lines) (drop k said)) in
     sym (append-nil values) ∙ ap (λ (l : List Data). values ++ l) (sym end) ∙ before
-explained-all k names verdicts said all values (inr (inr h)) before =
-    let end : explained_values (drop k names) (drop k verdicts) (drop k said) ≡ [] = rw (none said k h) (none_said (drop k names) (drop k verdicts)) in
+explained-all k names verdicts lines said all values (inr (inr (inl h))) before =
+    let end : explained_values (drop k names) (drop k verdicts) (drop k lines) (drop k said) ≡ [] =
+    rw (none lines k h) (no_lines (drop k names) (drop k verdicts) (drop k said)) in
+    sym (append-nil values) ∙ ap (λ (l : List Data). values ++ l) (sym end) ∙ before
+explained-all k names verdicts lines said all values (inr (inr (inr h))) before =
+    let end : explained_values (drop k names) (drop k verdicts) (drop k lines) (drop k said) ≡ [] =
+    rw (none said k h) (none_said (drop k names) (drop k verdicts) (drop k lines)) in
     sym (append-nil values) ∙ ap (λ (l : List Data). values ++ l) (sym end) ∙ before
 
--- the least of two numbers is one of them, and that of three
+-- the least of two numbers is one of them, and that of four
 pub least_of_two : (m a b : ℕ) → m ≡ min a b → (a ≤ m) ⊎ (b ≤ m)
 least_of_two m a b e = elim (cases_lt a b) [ inl lt ↦ inl (omega (arith, e, lt)) | inr le ↦ inr (omega (arith, e, le)) ]
 
-pub least_of_three : (m a b c : ℕ) → m ≡ min (min a b) c → (a ≤ m) ⊎ ((b ≤ m) ⊎ (c ≤ m))
-least_of_three m a b c e = elim (cases_lt a b) [
-  | inl lt ↦ elim (cases_lt a c) [ inl less ↦ inl (omega (arith, e, lt, less)) | inr le ↦ inr (inr (omega (arith, e, lt, le))) ]
-  | inr le ↦ elim (cases_lt b c) [ inl less ↦ inr (inl (omega (arith, e, le, less))) | inr low ↦ inr (inr (omega (arith, e, le, low))) ]
-]
+pub least_of_four : (m a b c d : ℕ) → m ≡ min (min (min a b) c) d → (a ≤ m) ⊎ ((b ≤ m) ⊎ ((c ≤ m) ⊎ (d ≤ m)))
+least_of_four m a b c d e = by_last (least_of_two m (min (min a b) c) d e)
+  where
+    by_first : (n : ℕ) → n ≤ m → (a ≤ n) ⊎ (b ≤ n) → (a ≤ m) ⊎ ((b ≤ m) ⊎ ((c ≤ m) ⊎ (d ≤ m)))
+    by_first n le (inl h) = inl (omega (arith, le, h))
+    by_first n le (inr h) = inr (inl (omega (arith, le, h)))
+
+    by_middle : (n : ℕ) → n ≤ m → (min a b ≤ n) ⊎ (c ≤ n) → (a ≤ m) ⊎ ((b ≤ m) ⊎ ((c ≤ m) ⊎ (d ≤ m)))
+    by_middle n le (inl h) = by_first (min a b) (omega (arith, le, h)) (least_of_two (min a b) a b refl)
+    by_middle n le (inr h) = inr (inr (inl (omega (arith, le, h))))
+
+    by_last : (min (min a b) c ≤ m) ⊎ (d ≤ m) → (a ≤ m) ⊎ ((b ≤ m) ⊎ ((c ≤ m) ⊎ (d ≤ m)))
+    by_last (inl h) = by_middle (min (min a b) c) h (least_of_two (min (min a b) c) (min a b) c refl)
+    by_last (inr h) = inr (inr (inr h))

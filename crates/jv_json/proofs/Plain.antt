@@ -1,5 +1,5 @@
 -- Values of reports have no floating point.
-use Rattle.std.proofs.Common.{◌≡◌, ℕ, Bool, true, false, List, [], ◌∷◌, ◌++◌, All, Ordering, Less, Equal, Greater, Some, codes, refl, ap, subst, ◌∙◌, cond}
+use Rattle.std.proofs.Common.{◌≡◌, ℕ, Bool, true, false, List, [], ◌∷◌, ◌++◌, All, Ordering, Less, Equal, Greater, Option, Some, None, codes, refl, ap, subst, ◌∙◌, cond}
 use Rattle.std.specs.Prelude.{◌||◌, slice_get}
 use Rattle.std.specs.Str.{is_utf8}
 use Rattle.std.specs.Ordering.{nat_cmp, match_ordering}
@@ -16,7 +16,7 @@ use Rattle.jv_meaning_typing.specs.declared.verdict.Verdict.{Verdict}
 use Rattle.jv_meaning_typing.specs.declared.verdict.Verdict.TheVariants.{Refused, Verify, Accepted}
 use Rattle.jv_program_base.specs.Escape.{escaped_text}
 use Rattle.jv_program_base.specs.Verdict.{reason_name, rule_number}
-use Rattle.jv_json.specs.Members.{with_bytes, with_escaped, with_fault, with_number, with_text, with_verdict}
+use Rattle.jv_json.specs.Members.{with_bytes, with_escaped, with_fault, with_line, with_number, with_text, with_verdict}
 use Rattle.jv_json.specs.Files.{explained_value, explained_values, file_members, file_value, file_values, with_files}
 
 -- members without floating point
@@ -104,14 +104,21 @@ with_files_plain names verdicts members are =
     put_plain (codes "files") (array (items_of (file_values names verdicts))) members
     (items_plain (file_values names verdicts) (files_plain names verdicts)) are
 
-pub explained_plain : (names : List (List ℕ)) (verdicts : List Verdict) (said : List (List ℕ)) → All IsPlain (explained_values names verdicts said)
+line_plain : (line : Option ℕ) (members : Members) → ArePlain members → ArePlain (with_line line members)
+line_plain None members are = are
+line_plain (Some line) members are = number_plain (codes "line") line members are
+
+pub explained_plain : (names : List (List ℕ)) (verdicts : List Verdict) (lines : List (Option ℕ)) (said : List (List ℕ))
+    → All IsPlain (explained_values names verdicts lines said)
 unfolding explained_values
-explained_plain [] verdicts said = All-nil IsPlain
-explained_plain (name ∷ names) [] said = All-nil IsPlain
-explained_plain (name ∷ names) (verdict ∷ verdicts) [] = All-nil IsPlain
-explained_plain (name ∷ names) (verdict ∷ verdicts) (text ∷ said) =
-    All-cons IsPlain (explained_value name verdict text) (explained_values names verdicts said)
-    (text_plain (codes "explanation") text (file_members name verdict) (file_plain name verdict)) (explained_plain names verdicts said)
+explained_plain [] verdicts lines said = All-nil IsPlain
+explained_plain (name ∷ names) [] lines said = All-nil IsPlain
+explained_plain (name ∷ names) (verdict ∷ verdicts) [] said = All-nil IsPlain
+explained_plain (name ∷ names) (verdict ∷ verdicts) (line ∷ lines) [] = All-nil IsPlain
+explained_plain (name ∷ names) (verdict ∷ verdicts) (line ∷ lines) (text ∷ said) =
+    All-cons IsPlain (explained_value name verdict line text) (explained_values names verdicts lines said)
+    (text_plain (codes "explanation") text (with_line line (file_members name verdict)) (line_plain line (file_members name verdict) (file_plain name verdict)))
+    (explained_plain names verdicts lines said)
 
 -- one of values that have none
 pub one_plain : (values : List Data) (k : ℕ) (value : Data) → slice_get values k ≡ Some value → All IsPlain values → IsPlain value

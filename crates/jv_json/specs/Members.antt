@@ -1,5 +1,5 @@
 -- The members of the objects that reports are as JSON (own).
-use Rattle.std.specs.Prelude.{ℕ, List, ◌++◌, codes, if◌then◌else◌}
+use Rattle.std.specs.Prelude.{ℕ, List, ◌++◌, codes, Option, Some, None, if◌then◌else◌}
 use Rattle.std.specs.Str.{is_utf8}
 use Rattle.base64.specs.GeneralPurpose.{encode_of}
 use Rattle.base64.specs.Engines.{standard}
@@ -24,6 +24,11 @@ with_escaped name bytes members =
 -- bytes: the text that they are in UTF-8, where they are one
 abbrev pub with_bytes : (name bytes : List ℕ) → Members → Members
 with_bytes name bytes members = if is_utf8 bytes then with_text name bytes members else with_escaped name bytes members
+
+-- a line of source, where there is one
+abbrev pub with_line : Option ℕ → Members → Members
+with_line None members = members
+with_line (Some line) members = with_number (codes "line") line members
 
 -- which rule a method breaks, and where
 abbrev pub with_fault : VerifyFault → Members → Members

@@ -1,7 +1,7 @@
 //! Members of objects.
 ghost use Rattle.std.specs.Prelude.{◌≡◌, ◌++◌, codes, IfOk, OnOk, string_bytes};
 ghost use Rattle.serde_json.specs.View.{members_view};
-ghost use Rattle.jv_json.specs.Members.{with_bytes, with_escaped, with_fault, with_number, with_text, with_verdict};
+ghost use Rattle.jv_json.specs.Members.{with_bytes, with_escaped, with_fault, with_line, with_number, with_text, with_verdict};
 
 use base64::engine::general_purpose::STANDARD;
 use jv_meaning_typing::{Verdict, VerifyFault};
@@ -72,6 +72,20 @@ pub fn put_bytes(
     match std::str::from_utf8(bytes) {
         Ok(text) => put_text(members, alloc, name, text),
         Err(_) => put_escaped(members, alloc, name, bytes),
+    }
+}
+
+/// Puts a line of source, where there is one.
+pub(crate) fn put_line(
+    members: &mut Map<String, Value>,
+    alloc: Global,
+    line: Option<u16>,
+) -> Result<(), AllocError>
+    ensures { OnOk result (members_view members.new.entries ≡ with_line line (members_view members.old.entries)) }
+{
+    match line {
+        Some(line) => put_number(members, alloc, "line", u64::from(line)),
+        None => Ok(()),
     }
 }
 

@@ -17,16 +17,14 @@ use Rattle.jv_meaning_typing.specs.Judgement.{BreaksRule, IsFirstFault, IsVerdic
 use Rattle.jv_verify.specs.Before.{IsTypedTo}
 use Rattle.jv_verify.specs.Frames.{IsTypedIn}
 use Rattle.jv_verify.proofs.BrokenThere.{below_end, below_first}
-use Rattle.jv_program_explain.specs.Explain.{IsExplainedBy, IsSaid, IsVerdictTold}
 use Rattle.jv_program_explain.specs.Frames.{AreFramesShown, ShowsFrames, ShowsFramesOf}
 use Rattle.jv_explain.specs.Explained.{is_at_instruction}
 use Rattle.jv_program_explain.specs.Inside.Numbered.{StandsAt}
-use Rattle.jv_program_explain.specs.declared.settings.ExplainSettings.{ExplainSettings}
 
 -- ---- the instructions below are type safe
 
 module _ (world : World) (site : Site) (pc : ℕ) where
-  below : (broken : VerifyRule) → is_at_instruction broken ≡ true → BreaksRule world site pc broken → WithFrames world site (λ env maps. IsTypedTo env maps pc)
+  pub below : (broken : VerifyRule) → is_at_instruction broken ≡ true → BreaksRule world site pc broken → WithFrames world site (λ env maps. IsTypedTo env maps pc)
   below rules.Code on h = absurd cc
   below rules.HandlerTable on h = absurd cc
   below rules.MapFrames on h = absurd cc
@@ -90,20 +88,6 @@ none_shown world NoClassFile Accepted text never e = e
 none_shown world NoClassFile (Refused w) text never e = e
 none_shown world MoreThanProfile Accepted text never e = e
 none_shown world MoreThanProfile (Refused w) text never e = e
-
-pub told_so : (world : World) (content : FileContent) (v : Verdict) (text : List ℕ) → ((w : LoadVerdict) → v ≡ Refused w → ⊥) → IsExplainedBy world content v text
-    → IsVerdictTold world content v text
-told_so world content Accepted text never h = h
-told_so world content (Verify f) text never h = h
-told_so world content (Refused w) text never h = absurd (never w refl)
-
--- ---- of a file that is accepted, and of others
-
-pub said_so : (s : ExplainSettings) (world : World) (content : FileContent) (v : Verdict) (text : List ℕ) → (v ≡ Accepted → ⊥) → IsVerdictTold world content v text
-    → IsSaid s world content v text
-said_so s world content Accepted text never h = absurd (never refl)
-said_so s world content (Refused w) text never h = h
-said_so s world content (Verify f) text never h = h
 
 -- a file that is accepted holds a class
 pub class_of_accepted : (world : World) (why : Option LoadVerdict) (content : FileContent) → IsVerdictOfContent world why (Some content) Accepted → (class : Class) × (content ≡ Holds class)

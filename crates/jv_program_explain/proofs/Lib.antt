@@ -1,3 +1,5 @@
+pub mod BelowFaults
+pub mod ByBytes
 pub mod Classes
 pub mod Faults
 pub mod InParts

@@ -55,7 +55,7 @@ module _ (given : List Class) (contents : List FileContent) (verdicts : List Ver
   pub of_file : IsVerdictOfContent world (load_verdict (with_library given) contents k) (Some f) v
   of_file = subst (λ (o : Option FileContent). IsVerdictOfContent world (load_verdict (with_library given) contents k) o v) at (right.verdict k v judged)
 
-  why_is : why_of v ≡ load_verdict (with_library given) contents k
+  pub why_is : why_of v ≡ load_verdict (with_library given) contents k
   why_is = known_why world (load_verdict (with_library given) contents k) f v of_file
 
   stands_there : IsTrue (joins (why_of v)) → (class : Class) × (f ≡ Holds class) × (slice_get world number ≡ Some (loaded false class))

@@ -15,8 +15,9 @@ use Rattle.jv_verify.specs.Inside.Numbered.{joins, next_number, number_behind}
 use Rattle.jv_program_explain.specs.declared.settings.ExplainSettings.{ExplainSettings}
 use Rattle.jv_program_explain.specs.Explain.{AreExplained, IsSaid}
 use Rattle.jv_program_explain.specs.Inside.Below.{AreExplainedBelow}
-use Rattle.jv_program_explain.specs.Inside.Numbered.{IsJudgedAt, StandsAt, is_on_methods, why_of}
+use Rattle.jv_program_explain.specs.Inside.Numbered.{IsContentFor, IsJudgedAt, StandsAt, is_on_methods, why_of}
 use Rattle.jv_program_explain.proofs.Numbering.{class_there, is_within, judged_there, next_is, of_file}
+use Rattle.jv_program_explain.proofs.ByBytes.{content_for}
 
 pushed : {X : Type 0} (xs : List X) (x : X) (k : ℕ) (y : X) → slice_get (xs ++ x ∷ []) k ≡ Some y → (slice_get xs k ≡ Some y) ⊎ ((k ≡ length xs) × (x ≡ y))
 pushed [] x zero y e = inr (refl, cc)
@@ -59,12 +60,12 @@ nothing [] e zero text at = absurd cc
 nothing [] e (suc k) text at = absurd cc
 nothing (x ∷ xs) e place text at = absurd cc
 
-pub none_yet : (s : ExplainSettings) (given : List Class) (contents : List FileContent) (verdicts : List Verdict) (number : ℕ)
-    → number ≡ length (with_library given).system + length (with_library given).front → AreExplainedBelow s given contents verdicts 0 number []
-none_yet s given contents verdicts number e = record {
+pub none_yet : (s : ExplainSettings) (given : List Class) (files : List (List ℕ)) (contents : List FileContent) (verdicts : List Verdict) (number : ℕ)
+    → number ≡ length (with_library given).system + length (with_library given).front → AreExplainedBelow s given files contents verdicts 0 number []
+none_yet s given files contents verdicts number e = record {
   number_is = number_at contents;
   count = refl;
-  each = λ place content verdict text at v t. absurd (nothing [] refl place text t);
+  each = λ place bytes content verdict text file at v t. absurd (nothing [] refl place text t);
 }
   where
     number_at : (contents : List FileContent) → number ≡ number_behind (with_library given) (take 0 contents)
@@ -94,48 +95,53 @@ module _ (files : List (List ℕ)) (given : List Class) (contents : List FileCon
         (subst (λ (n : ℕ). n < length (world_of (with_library given) contents)) (sym number_is)
         (is_within given contents verified.verdicts found.verdicts k here.0 v here.1 judged on))
 
-    pub one_more : (said : List (List ℕ)) → AreExplainedBelow s given contents verified.verdicts k number said → (bytes text : List ℕ) (next : ℕ) → slice_get files k ≡ Some bytes
+    pub one_more : (said : List (List ℕ)) → AreExplainedBelow s given files contents verified.verdicts k number said → (bytes text : List ℕ) (next : ℕ) → slice_get files k ≡ Some bytes
         → next ≡ next_number number (why_of v)
         → ((why : Option LoadVerdict) (content : FileContent) → IsContent bytes content → IsVerdictOfContent world why (Some content) v
-        → (IsTrue (is_on_methods v) → StandsAt world number content) → IsSaid s world content v text)
-        → AreExplainedBelow s given contents verified.verdicts (k + 1) next (said ++ text ∷ [])
+        → (IsTrue (is_on_methods v) → StandsAt world number content) → IsContentFor v content → IsSaid s world bytes content v text)
+        → AreExplainedBelow s given files contents verified.verdicts (k + 1) next (said ++ text ∷ [])
     one_more said below bytes text next file next_on says = record {
       number_is =
           next_on
           ∙ (ap (λ (n : ℕ). next_number n (why_of v)) number_is
           ∙ (sym (next_is given contents verified.verdicts found.verdicts k here.0 v here.1 judged) ∙ ap (λ (n : ℕ). number_behind (with_library given) (take n contents)) (sym plus)));
       count = length-append said (text ∷ []) ∙ ap (λ (n : ℕ). n + 1) below.count;
-      each = λ place content w t at w_at t_at. by_place place content w t at w_at (pushed said text place t t_at);
+      each = λ place b content w t b_at at w_at t_at. by_place place b content w t b_at at w_at (pushed said text place t t_at);
     }
       where
         plus : k + 1 ≡ suc k
         plus = omega arith
 
-        said_here : IsSaid s (world_of (with_library given) contents) here.0 v text
+        said_here : IsSaid s (world_of (with_library given) contents) bytes here.0 v text
         said_here =
-            subst (λ (w : World). IsSaid s w here.0 v text) is_world
+            subst (λ (w : World). IsSaid s w bytes here.0 v text) is_world
             (says (load_verdict (with_library given) contents k) here.0 (content_at files contents are k bytes here.0 file here.1)
             (subst (λ (w : World). IsVerdictOfContent w (load_verdict (with_library given) contents k) (Some here.0) v) (sym is_world)
             (of_file given contents verified.verdicts found.verdicts k here.0 v here.1 judged))
             (λ on. subst (λ (w : World). StandsAt w number here.0) (sym is_world)
             (subst (λ (n : ℕ). StandsAt (world_of (with_library given) contents) n here.0) (sym number_is)
-            (class_there given contents verified.verdicts found.verdicts k here.0 v here.1 judged on))))
+            (class_there given contents verified.verdicts found.verdicts k here.0 v here.1 judged on)))
+            (content_for given contents verified.verdicts found.verdicts k here.0 v here.1 judged))
 
-        by_place : (place : ℕ) (content : FileContent) (w : Verdict) (t : List ℕ) → slice_get contents place ≡ Some content → slice_get verified.verdicts place ≡ Some w
-            → (slice_get said place ≡ Some t) ⊎ ((place ≡ length said) × (text ≡ t)) → IsSaid s (world_of (with_library given) contents) content w t
-        by_place place content w t at w_at (inl before) = below.each place content w t at w_at before
-        by_place place content w t at w_at (inr (last, alike)) =
+        by_place : (place : ℕ) (b : List ℕ) (content : FileContent) (w : Verdict) (t : List ℕ) → slice_get files place ≡ Some b → slice_get contents place ≡ Some content
+            → slice_get verified.verdicts place ≡ Some w → (slice_get said place ≡ Some t) ⊎ ((place ≡ length said) × (text ≡ t))
+            → IsSaid s (world_of (with_library given) contents) b content w t
+        by_place place b content w t b_at at w_at (inl before) = below.each place b content w t b_at at w_at before
+        by_place place b content w t b_at at w_at (inr (last, alike)) =
             let now : place ≡ k = last ∙ below.count in
             let w_same : Some v ≡ Some w = sym judged ∙ (ap (slice_get verified.verdicts) (sym now) ∙ w_at) in
             let verdict_is : v ≡ w = cc in
             let c_same : Some here.0 ≡ Some content = sym here.1 ∙ (ap (slice_get contents) (sym now) ∙ at) in
             let content_is : here.0 ≡ content = cc in
-            subst (λ (x : List ℕ). IsSaid s (world_of (with_library given) contents) content w x) alike
-            (subst (λ (x : Verdict). IsSaid s (world_of (with_library given) contents) content x text) verdict_is
-            (subst (λ (x : FileContent). IsSaid s (world_of (with_library given) contents) x v text) content_is said_here))
+            let b_same : Some bytes ≡ Some b = sym file ∙ (ap (slice_get files) (sym now) ∙ b_at) in
+            let bytes_are : bytes ≡ b = cc in
+            subst (λ (x : List ℕ). IsSaid s (world_of (with_library given) contents) b content w x) alike
+            (subst (λ (x : Verdict). IsSaid s (world_of (with_library given) contents) b content x text) verdict_is
+            (subst (λ (x : FileContent). IsSaid s (world_of (with_library given) contents) b x v text) content_is
+            (subst (λ (x : List ℕ). IsSaid s (world_of (with_library given) contents) x here.0 v text) bytes_are said_here)))
 
-  pub all_said : (s : ExplainSettings) (k number : ℕ) (said : List (List ℕ)) → AreExplainedBelow s given contents verified.verdicts k number said → k ≡ min (length files) (length verified.verdicts)
-      → AreExplained s given contents verified.verdicts said
+  pub all_said : (s : ExplainSettings) (k number : ℕ) (said : List (List ℕ)) → AreExplainedBelow s given files contents verified.verdicts k number said
+      → k ≡ min (length files) (length verified.verdicts) → AreExplained s given files contents verified.verdicts said
   all_said s k number said below e = record {
     count = below.count ∙ (e ∙ least (length files) (length verified.verdicts) (sym (as_many files contents are) ∙ sym found.verdicts.count));
     each = below.each;

@@ -11,6 +11,9 @@ use Rattle.jv_meaning_world.specs.World.{Loaded, World}
 use Rattle.jv_meaning_world.specs.Verdicts.{declared_by}
 use Rattle.jv_meaning_typing.specs.Uses.{Site}
 use Rattle.jv_meaning_typing.specs.Environment.{offset_behind}
+use Rattle.jv_meaning_typing.specs.declared.verdict.VerifyFault.{VerifyFault}
+use Rattle.jv_meaning_typing.specs.declared.verdict.VerifyRule.{VerifyRule}
+use Rattle.jv_meaning_typing.specs.declared.verdict.VerifyRule.TheVariants as rules
 use Rattle.jv_meaning_typing.specs.Judgement.{WithFrames}
 use Rattle.jv_shown.specs.Frames.{frame_text}
 use Rattle.jv_explain.specs.Text.{method_text, place_text}
@@ -66,6 +69,22 @@ IsCodeListed world site line number None text = text ≡ []
 IsCodeListed world site line number (Some body) text =
     (listing : List ℕ) × IsListedTo world site line body.code (length body.code) listing
     × (text ≡ method_text number site.method ++ listing)
+
+-- the instructions below the one at which a method breaks a rule, with lines of source, as the file may say them
+pub record IsFaultListed (world : World) (l : Loaded) (fault : VerifyFault) (text : List ℕ) : Type 0 where
+  pub method : Method
+  pub at : slice_get l.class.methods fault.method ≡ Some method
+  pub body : CodeSeen
+  pub has_code : method.code ≡ Some body
+  pub line : ℕ → Option ℕ
+  pub listed : IsListedTo world (declared_by l method) line body.code fault.offset text
+
+-- rules on the whole code are broken at no instruction
+abbrev pub IsFaultListedOf : World → Loaded → VerifyFault → VerifyRule → List ℕ → Type 0
+IsFaultListedOf world l fault rules.Code text = text ≡ []
+IsFaultListedOf world l fault rules.HandlerTable text = text ≡ []
+IsFaultListedOf world l fault rules.MapFrames text = text ≡ []
+IsFaultListedOf world l fault rule text = IsFaultListed world l fault text
 
 -- ---- a class
 

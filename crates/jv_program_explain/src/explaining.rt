@@ -7,6 +7,7 @@ ghost use Rattle.jv_program_check.specs.Text.{check_status};
 ghost use Rattle.jv_program_explain.specs.Explain.{IsExplained};
 ghost use Rattle.jv_program_explain.specs.Text.{explain_report};
 
+use crate::lines::lines_of;
 use crate::report::Parts;
 use crate::said::said_of;
 use crate::settings::ExplainSettings;
@@ -20,19 +21,20 @@ use jv_verify::verify_files;
 use std::alloc::{AllocError, Global};
 use std::hash::RandomState;
 
-/// The report on files of these names with these verdicts and what is said of them, in JSON or not.
+/// The report on files of these names with these verdicts, lines of source and what is said of them, in JSON or not.
 fn report_of(
     alloc: Global,
     json: bool,
     names: &[&[u8]],
     verdicts: &[Verdict],
+    lines: &[Option<u16>],
     said: &[String],
 ) -> Result<String, AllocError>
     ensures { IfOk result (λ report.
-        string_bytes report ≡ explain_report json (map bytes_of names.now) verdicts.now (map string_bytes said.now)) }
+        string_bytes report ≡ explain_report json (map bytes_of names.now) verdicts.now lines.now (map string_bytes said.now)) }
 {
     if json {
-        let values = explained_values(alloc, names, verdicts, said)?;
+        let values = explained_values(alloc, names, verdicts, lines, said)?;
         json_lines(alloc, values.as_slice())
     } else {
         let parts = Parts {
@@ -44,20 +46,21 @@ fn report_of(
     }
 }
 
-/// What is said of files of these names with these verdicts.
+/// What is said of files of these names with these verdicts and lines of source.
 fn outcome_of(
     alloc: Global,
     json: bool,
     names: &[&[u8]],
     verdicts: &[Verdict],
+    lines: &[Option<u16>],
     said: &[String],
 ) -> Result<Outcome, AllocError>
     ensures report { IfOk result (λ outcome.
-        string_bytes outcome.report ≡ explain_report json (map bytes_of names.now) verdicts.now (map string_bytes said.now)) }
+        string_bytes outcome.report ≡ explain_report json (map bytes_of names.now) verdicts.now lines.now (map string_bytes said.now)) }
     ensures raw { IfOk result (λ outcome. outcome.raw ≡ None) }
     ensures status { IfOk result (λ outcome. outcome.status ≡ check_status verdicts.now) }
 {
-    let report = report_of(alloc, json, names, verdicts, said)?;
+    let report = report_of(alloc, json, names, verdicts, lines, said)?;
     let status = status_of(verdicts);
     Ok(Outcome {
         report,
@@ -84,19 +87,22 @@ fn explained(
     };
     stand(alloc, state, &verified)?;
     let said = said_of(alloc, state, settings, &verified, files)?;
+    let verdicts = verified.verdicts();
+    let lines = lines_of(alloc, files, verdicts)?;
     Ok(outcome_of(
         alloc,
         settings.json,
         names,
-        verified.verdicts(),
+        verdicts,
+        lines.as_slice(),
         said.as_slice(),
     )?)
 }
 
 /// Takes files of these names, as many as there are files, as those of one guest, runs nothing, and says of each what its verdict is beside
-/// the system's classes and a library's, of a method that breaks a rule where and which, and of a class that is accepted, as far as the
-/// settings ask for it, its methods with the frame before each instruction (JVMS 4.10.1.6), and which references of theirs don't resolve
-/// (5.4.3), in JSON or not.
+/// the system's classes and a library's, of a method that breaks a rule where and which, and as far as the settings ask for it the
+/// instructions below, each with the frame before it (JVMS 4.10.1.6), of a class that is accepted so its methods, and which references of
+/// theirs don't resolve (5.4.3), in JSON or not.
 ///
 /// # Errors
 ///

@@ -2,9 +2,11 @@
 //! program.
 #![tactic(auto)]
 
+mod below;
 mod class;
 mod explaining;
 mod frames;
+mod lines;
 mod method;
 mod named;
 mod numbers;

@@ -5,22 +5,25 @@ ghost use Rattle.jv_limits.specs.Bytes.{bytes_of};
 ghost use Rattle.jv_links.specs.Text.{AreLinksTold};
 ghost use Rattle.jv_program_explain.specs.Listing.{AreMethodsListed};
 ghost use Rattle.jv_meaning_typing.specs.Judgement.{IsVerdictOfContent};
-ghost use Rattle.jv_meaning_typing.specs.declared.verdict.Verdict.TheVariants.{Accepted};
+ghost use Rattle.jv_meaning_typing.specs.declared.verdict.Verdict.TheVariants.{Accepted, Refused};
 ghost use Rattle.jv_meaning_world.specs.FileContent.{FileContent, IsContent};
 ghost use Rattle.jv_meaning_world.specs.Numbers.{HoldsAtNumber};
 ghost use Rattle.jv_meaning_world.specs.declared.verdict.LoadVerdict.{LoadVerdict};
-ghost use Rattle.jv_program_explain.specs.Explain.{IsAcceptedTold, IsAsked, IsSaid, IsVerdictTold};
+ghost use Rattle.jv_program_explain.specs.Explain.{IsAcceptedTold, IsAsked, IsExplainedBy, IsRefusedTold, IsSaid};
 ghost use Rattle.jv_program_explain.specs.Inside.Below.{AreSaid};
-ghost use Rattle.jv_program_explain.specs.Inside.Numbered.{IsJudgedAt, StandsAt, is_on_methods};
+ghost use Rattle.jv_program_explain.specs.Inside.Numbered.{IsContentFor, IsJudgedAt, StandsAt, is_on_methods};
 ghost use Rattle.jv_verify.specs.Files.{AreFilesOf};
 
+use crate::below::below_told;
 use crate::class::list_methods;
 use crate::frames::frames_shown;
 use crate::numbers::next_number;
 use crate::settings::ExplainSettings;
+use jv_beyond::explain_unsupported;
 use jv_explain::{explain_file, explain_refusal};
 use jv_links::explain_links;
-use jv_loader::{Classes, OutOfMemory};
+use jv_loader::{Classes, LoadVerdict, OutOfMemory};
+use jv_malformed::explain_malformed;
 use jv_meaning_typing::Verdict;
 use jv_program_base::{bytes_at, verdict_at};
 use jv_verify::Verified;
@@ -87,11 +90,28 @@ fn accepted_told(
     Ok(text)
 }
 
-/// What is said of the verdict on a file with these bytes, whose class has a number where its methods were looked at. Names are hashed
-/// with the state.
+/// What is said of a file with these bytes that is refused before the methods of its class are looked at.
+fn refused_told(
+    alloc: Global,
+    classes: &Classes<'_>,
+    bytes: &[u8],
+    why: LoadVerdict,
+) -> Result<String, OutOfMemory>
+    ensures { IfOk result (λ text. (content : FileContent) → IsContent bytes.now content → IsContentFor (Refused why) content
+        → IsRefusedTold classes.now.world bytes.now content why (string_bytes text)) }
+{
+    match why {
+        LoadVerdict::Format => Ok(explain_malformed(alloc, bytes)?),
+        LoadVerdict::Unsupported => Ok(explain_unsupported(alloc, bytes)?),
+        _ => explain_refusal(alloc, classes, bytes, why),
+    }
+}
+
+/// What is said of the verdict on the methods of the class of a file with these bytes, which has a number. Names are hashed with the state.
 fn verdict_told(
     alloc: Global,
     state: RandomState,
+    settings: ExplainSettings,
     classes: &Classes<'_>,
     number: usize,
     bytes: &[u8],
@@ -101,13 +121,19 @@ fn verdict_told(
     ensures { IfOk result (λ text. (why : Option LoadVerdict) (content : FileContent) → IsContent bytes.now content
         → IsVerdictOfContent classes.now.world why (Some content) verdict
         → (IsTrue (is_on_methods verdict) → StandsAt classes.now.world number content)
-        → IsVerdictTold classes.now.world content verdict (string_bytes text)) }
+        → IsExplainedBy settings classes.now.world content verdict (string_bytes text)) }
 {
-    if let Verdict::Refused(why) = verdict {
-        return explain_refusal(alloc, classes, bytes, why);
-    }
+    let above = below_told(
+        alloc,
+        state,
+        settings.frames,
+        classes,
+        number,
+        bytes,
+        verdict,
+    )?;
     let frames = frames_shown(alloc, state, classes, number, verdict)?;
-    explain_file(alloc, bytes, verdict, &frames)
+    explain_file(alloc, bytes, verdict, &above, &frames)
 }
 
 /// What is said of a file with these bytes and this verdict, whose class has a number where its methods were looked at. Names are hashed
@@ -124,12 +150,15 @@ fn said_at(
     requires { IsTrue (is_on_methods verdict) → IsJudgedAt classes.now.world number verdict }
     ensures { IfOk result (λ text. (why : Option LoadVerdict) (content : FileContent) → IsContent bytes.now content
         → IsVerdictOfContent classes.now.world why (Some content) verdict
-        → (IsTrue (is_on_methods verdict) → StandsAt classes.now.world number content)
-        → IsSaid settings classes.now.world content verdict (string_bytes text)) }
+        → (IsTrue (is_on_methods verdict) → StandsAt classes.now.world number content) → IsContentFor verdict content
+        → IsSaid settings classes.now.world bytes.now content verdict (string_bytes text)) }
 {
     match verdict {
         Verdict::Accepted => Ok(accepted_told(alloc, state, settings, classes, number, bytes)?),
-        _ => verdict_told(alloc, state, classes, number, bytes, verdict),
+        Verdict::Refused(why) => refused_told(alloc, classes, bytes, why),
+        Verdict::Verify(_) => {
+            verdict_told(alloc, state, settings, classes, number, bytes, verdict)
+        }
     }
 }
 

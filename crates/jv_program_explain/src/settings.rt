@@ -7,6 +7,7 @@ pub struct ExplainSettings {
     pub json: bool,
     /// Whether the references of an accepted class that don't resolve are told.
     pub links: bool,
-    /// Whether the methods of an accepted class are listed, with the frame before each instruction.
+    /// Whether the methods of an accepted class are listed, and of a method that breaks a rule the instructions below the one at which
+    /// it does, each with the frame before it.
     pub frames: bool,
 }

@@ -190,7 +190,7 @@ fn explain_line<'a>(alloc: Global) -> Result<Command<'a>, AllocError>
     let frames = flag(
         alloc,
         "frames",
-        "Lists the methods of an accepted class, with the frame before each instruction",
+        "Lists the methods of an accepted class, and what stands above a fault, with the frame before each instruction",
     );
     let args = [files, library(alloc), json(alloc), links, frames];
     Command::new(alloc, "explain")

@@ -39,6 +39,6 @@ ShowsFaultIn pool shown fault line text =
     → ShowsPlace (declared_by l m) fault.offset line fault.rule text
 
 -- of the class of a file
-abbrev pub ExplainsIn : ClassStructure → VerifyFault → (frames text : List ℕ) → Type 0
-ExplainsIn file fault frames text =
-    (world : World) (l : Loaded) → class_of file ≡ Some l.class → IsFirstFault world l fault → ExplainsFault l fault frames text
+abbrev pub ExplainsIn : ClassStructure → VerifyFault → (above frames text : List ℕ) → Type 0
+ExplainsIn file fault above frames text =
+    (world : World) (l : Loaded) → class_of file ≡ Some l.class → IsFirstFault world l fault → ExplainsFault l fault above frames text

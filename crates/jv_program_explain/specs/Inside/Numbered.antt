@@ -1,9 +1,10 @@
 -- The class of a file by its number.
-use Rattle.std.specs.Prelude.{◌≡◌, ◌<◌, ℕ, Bool, true, false, length, Option, Some, None, slice_get}
+use Rattle.std.specs.Prelude.{◌≡◌, ◌<◌, ⊤, ℕ, Bool, true, false, length, Option, Some, None, slice_get}
 use Rattle.jv_class.specs.Class.{Class}
 use Rattle.jv_meaning_world.specs.FileContent.{FileContent}
-use Rattle.jv_meaning_world.specs.declared.content.Content.TheVariants.{Holds}
+use Rattle.jv_meaning_world.specs.declared.content.Content.TheVariants.{Holds, MoreThanProfile, NoClassFile}
 use Rattle.jv_meaning_world.specs.declared.verdict.LoadVerdict.{LoadVerdict}
+use Rattle.jv_meaning_world.specs.declared.verdict.LoadVerdict.TheVariants.{Format, Unsupported}
 use Rattle.jv_meaning_world.specs.Numbers.{HoldsAtNumber}
 use Rattle.jv_meaning_world.specs.World.{World, loaded}
 use Rattle.jv_meaning_typing.specs.declared.verdict.Verdict.{Verdict}
@@ -29,3 +30,9 @@ pub record IsJudgedAt (world : World) (number : ℕ) (verdict : Verdict) : Type 
 -- it is the one that a file holds
 abbrev pub StandsAt : World → ℕ → FileContent → Type 0
 StandsAt world number content = (class : Class) → content ≡ Holds class → slice_get world number ≡ Some (loaded false class)
+
+-- `Format` is the verdict on bytes that are no class file alone, and `Unsupported` that on a file with more than the profile
+abbrev pub IsContentFor : Verdict → FileContent → Type 0
+IsContentFor (verdicts.Refused Format) content = content ≡ NoClassFile
+IsContentFor (verdicts.Refused Unsupported) content = content ≡ MoreThanProfile
+IsContentFor verdict content = ⊤

@@ -25,10 +25,10 @@ returns c =
     let method = c.in-Some.method in
     IfOk-weaker c.told.result _ _
     (λ text h. explained c.stands_in_list.ensures file c.args.fault (seen_method method) c.line_at-line.result c.from.result c.utf8-2.result.now c.utf8-2-2.result.now
-    (string_bytes c.in_ok-place.place) c.args.frames.now (string_bytes text)
+    c.args.above.now (string_bytes c.in_ok-place.place) c.args.frames.now (string_bytes text)
     (sym (ap (option_map seen_method) c.in-Some.is) ∙ c.method.ensures.shown) c.from.ensures
     (ap (λ (p : List Entry). utf8_at p method.name.0) (sym c.pool-2.ensures) ∙ c.utf8-2.ensures)
     (ap (λ (p : List Entry). utf8_at p method.descriptor.0) (sym c.pool-3.ensures) ∙ c.utf8-2-2.ensures)
     (subst (λ (p : List Entry). ShowsFaultIn p (seen_method method) c.args.fault c.line_at-line.result (string_bytes c.in_ok-place.place)) c.pool.ensures c.in_ok-place.ensures)
-    (h ∙ ap (λ (t : List ℕ). named_text c.args.fault.method c.utf8-2.result.now c.utf8-2-2.result.now ++ t ++ c.args.frames.now ++ broken_text c.args.fault.rule) c.deref.ensures))
+    (h ∙ ap (λ (t : List ℕ). named_text c.args.fault.method c.utf8-2.result.now c.utf8-2-2.result.now ++ c.args.above.now ++ t ++ c.args.frames.now ++ broken_text c.args.fault.rule) c.deref.ensures))
     c.told.ensures

@@ -8,5 +8,6 @@ use Rattle.jv_json.proofs.files.explained_values.Given as goal
 
 abbrev pub invariant-loop-place : goal.invariant-loop-place
 invariant-loop-place l =
-    map view l.values.items ++ explained_values (drop l.place (map bytes_of l.names)) (drop l.place l.verdicts) (drop l.place (map string_bytes l.said))
-    ≡ explained_values (map bytes_of l.names) l.verdicts (map string_bytes l.said)
+    map view l.values.items ++ explained_values (drop l.place (map bytes_of l.names)) (drop l.place l.verdicts) (drop l.place l.lines)
+    (drop l.place (map string_bytes l.said))
+    ≡ explained_values (map bytes_of l.names) l.verdicts l.lines (map string_bytes l.said)

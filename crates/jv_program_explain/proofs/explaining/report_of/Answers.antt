@@ -11,6 +11,6 @@ pub json_lines-requires : goal.json_lines-requires
 json_lines-requires c =
     let names = map bytes_of c.args.names.now in
     let said = map string_bytes c.args.said.now in
-    let values : map view c.as_slice.result.now ≡ explained_values names c.args.verdicts.now said =
+    let values : map view c.as_slice.result.now ≡ explained_values names c.args.verdicts.now c.args.lines.now said =
     ap (map view) c.as_slice.ensures.value ∙ c.in_ok-values.ensures {u = tt} in
-    subst (λ (ds : List Data). All IsPlain ds) (sym values) (explained_plain names c.args.verdicts.now said)
+    subst (λ (ds : List Data). All IsPlain ds) (sym values) (explained_plain names c.args.verdicts.now c.args.lines.now said)

@@ -9,9 +9,9 @@ use Rattle.jv_program_explain.proofs.said.said_of.Goals as goal
 
 pub loop-place-init : goal.loop-place-init
 loop-place-init c = λ given contents are found.
-    subst (λ (said : List (List ℕ)). AreExplainedBelow c.args.settings given contents c.args.verified.now.verdicts 0 c.host_count-number.result said)
+    subst (λ (said : List (List ℕ)). AreExplainedBelow c.args.settings given (map bytes_of c.args.files.now) contents c.args.verified.now.verdicts 0 c.host_count-number.result said)
     (sym (ap (map string_bytes) c.new-said.ensures.items))
-    (none_yet c.args.settings given contents c.args.verified.now.verdicts c.host_count-number.result (c.host_count-number.ensures.count ∙ found.host))
+    (none_yet c.args.settings given (map bytes_of c.args.files.now) contents c.args.verified.now.verdicts c.host_count-number.result (c.host_count-number.ensures.count ∙ found.host))
 
 pub said_at-requires : goal.said_at-requires
 said_at-requires c =
@@ -43,7 +43,8 @@ loop-place-preserved c = λ given contents are found.
     let pushed : c.push.new.self.items ≡ before ++ c.in-Ok.text ∷ [] = search rules in
     let texts : map string_bytes c.push.new.self.items ≡ map string_bytes before ++ string_bytes c.in-Ok.text ∷ [] =
     ap (map string_bytes) pushed ∙ map-append string_bytes before (c.in-Ok.text ∷ []) in
-    subst (λ (said : List (List ℕ)). AreExplainedBelow c.args.settings given contents c.args.verified.now.verdicts (c.loop-place.place + 1) c.next_number-number.result said) (sym texts)
+    subst (λ (said : List (List ℕ)).
+    AreExplainedBelow c.args.settings given (map bytes_of files) contents c.args.verified.now.verdicts (c.loop-place.place + 1) c.next_number-number.result said) (sym texts)
     (one_more (map bytes_of files) given contents are c.args.verified.now found c.args.settings c.loop-place.place (omega (arith, many, less)) c.verdict_at-verdict.result
     (ap (λ vs. slice_get vs c.loop-place.place) (sym c.verdicts-verdicts.ensures) ∙ c.verdict_at-verdict.ensures) c.loop-place.number below.number_is
     c.classes-classes.result.now.world c.classes-classes.ensures (map string_bytes before) below c.bytes_at-bytes.result.now (string_bytes c.in-Ok.text) c.next_number-number.result

@@ -10,4 +10,4 @@ use Rattle.jv_program_explain.proofs.said.said_of.Given as goal
 abbrev pub invariant-loop-place : goal.invariant-loop-place
 invariant-loop-place l =
     (given : List Class) (contents : List FileContent) → AreContents (map bytes_of l.files) contents → AreVerified given contents l.verified
-    → AreExplainedBelow l.settings given contents l.verified.verdicts l.place l.number (map string_bytes l.said.items)
+    → AreExplainedBelow l.settings given (map bytes_of l.files) contents l.verified.verdicts l.place l.number (map string_bytes l.said.items)

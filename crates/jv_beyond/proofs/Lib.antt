@@ -1,0 +1,4 @@
+pub mod InOrder
+pub mod InUse
+pub mod SomeBeyond
+pub mod Used

@@ -1,0 +1,6 @@
+use Rattle.std.proofs.Common.{◌*◌}
+use Rattle.jv_beyond.specs.Inside.Found.{NoneBelow}
+use Rattle.jv_beyond.proofs.finding.first_use.Given as goal
+
+abbrev pub invariant-loop-place : goal.invariant-loop-place
+invariant-loop-place l = NoneBelow l.parts 1 (l.place * 65536)

@@ -1,0 +1,75 @@
+-- Bytes that begin like a class file, and what is at fault behind that.
+use Rattle.std.proofs.Common.{◌≡◌, ℕ, Bool, true, false, List, ◌++◌, Option, Some, None, sym, ap, ◌∙◌, refl}
+use Rattle.std.specs.Prelude.{IsTrue, take, drop}
+use Rattle.std.proofs.lemmas.Bool.{and_parts, and_from, ltb-true, lt-ltb}
+use Rattle.jv_format.specs.Format.{IsBytes, half, quad}
+use Rattle.jv_format.specs.Readers.{both}
+use Rattle.jv_format.proofs.Laws.{IsFormat, half_is, quad_is, both_is, such_is}
+use Rattle.jv_pool.specs.Constants.{Entry}
+use Rattle.jv_pool.specs.Rules.{IsPool}
+use Rattle.std.proofs.lemmas.List.{take-append-drop}
+use Rattle.jv_class_structure.specs.Parts.{IsBehindVersion}
+use Rattle.jv_class_structure.specs.Structure.{ClassStructure}
+use Rattle.jv_class_structure.specs.Version.{is_supported_version}
+use Rattle.jv_class.specs.Inside.Reading.{Three, magic_number, header}
+use Rattle.jv_class.specs.Rules.{KeepsClassRules}
+use Rattle.jv_class.proofs.Whole.{other_version, not_supported, class_from_behind}
+use Rattle.jv_meaning_world.specs.FileContent.{IsContent}
+use Rattle.jv_meaning_world.specs.declared.content.Content.TheVariants.{NoClassFile}
+use Rattle.jv_malformed.specs.Part.{BeginsBefore, BeginsWithPool, IsFaultyPart}
+use Rattle.jv_malformed.specs.Inside.Behind.{IsFaultyBehind}
+use Rattle.jv_malformed.specs.declared.part.FaultyPart.{FaultyPart}
+use Rattle.jv_malformed.specs.declared.part.FaultyPart.TheVariants.{Start, Constants, Structure, Rules}
+
+header_is : IsFormat header
+header_is = both_is magic_number (both half half) (such_is _ quad quad_is) (both_is half half half_is half_is)
+
+abbrev numbers : ℕ → ℕ → Three
+numbers minor major = (3405691582, (minor, major))
+
+abbrev begins_before : (bytes rest : List ℕ) (minor major : ℕ) → IsBytes bytes → header.read bytes ≡ Some (numbers minor major, rest) → BeginsBefore rest bytes
+begins_before bytes rest minor major small found =
+    let one = header_is.takes bytes rest (numbers minor major) small found in
+    let two = and_parts (half.fits minor) (half.fits major) one.1 in
+    record {
+      minor = minor;
+      major = major;
+      minor_fits = ltb-true minor 65536 two.0;
+      major_fits = ltb-true major 65536 two.1;
+      begins = one.0;
+    }
+
+differ : {A : Type 0} (o : Option A) (x : A) → o ≡ None → o ≡ Some x → ⊥
+differ o x none some = cc
+
+-- where no header is read, there is none
+pub no_start : (bytes : List ℕ) → header.read bytes ≡ None → (rest : List ℕ) → BeginsBefore rest bytes → ⊥
+no_start bytes none rest b =
+    let fits = and_from (half.fits b.minor) (half.fits b.major) (lt-ltb b.minor 65536 b.minor_fits) (lt-ltb b.major 65536 b.major_fits) in
+    let some = ap header.read b.begins ∙ header_is.again (numbers b.minor b.major) rest fits in
+    differ (header.read bytes) (numbers b.minor b.major, rest) none some
+
+-- a structure that stands behind the version of no class file breaks a rule
+breaks : (bytes rest : List ℕ) (minor major : ℕ) → IsBytes bytes → header.read bytes ≡ Some (numbers minor major, rest)
+    → IsContent bytes NoClassFile → (c : ClassStructure) → IsBehindVersion major rest c → KeepsClassRules c → ⊥
+breaks bytes rest minor major small found none c behind rules = by_version (is_supported_version minor major) refl
+  where
+    by_version : (v : Bool) → is_supported_version minor major ≡ v → ⊥
+    by_version true on = none.1 c (class_from_behind bytes rest minor major small found on c (record { behind = behind; rules = rules }))
+    by_version false off = none.0 (other_version bytes rest minor major small found (not_supported minor major false (sym off) refl))
+
+pub faulty : (bytes rest : List ℕ) (minor major : ℕ) → IsBytes bytes → header.read bytes ≡ Some (numbers minor major, rest)
+    → (part : FaultyPart) → IsFaultyBehind major rest part → IsContent bytes NoClassFile → IsFaultyPart bytes part
+faulty bytes rest minor major small found Start h none = absurd h
+faulty bytes rest minor major small found Constants h none = (rest, begins_before bytes rest minor major small found, h)
+faulty bytes rest minor major small found Structure h none = (rest, begins_before bytes rest minor major small found, h)
+faulty bytes rest minor major small found Rules h none =
+    (rest, begins_before bytes rest minor major small found, (h.0, h.1, breaks bytes rest minor major small found none h.0 h.1))
+
+-- a pool of which so many bytes are taken
+pub pool_there : (bytes : List ℕ) (pool : List Entry) (n : ℕ) → IsPool (take n bytes) pool → BeginsWithPool bytes
+pool_there bytes pool n is =
+    record { pool = pool; front = take n bytes; rest = drop n bytes; begins = sym (take-append-drop n bytes); is_pool = is }
+
+pub no_pool : (bytes : List ℕ) → ((pool : List Entry) (front rest : List ℕ) → bytes ≡ front ++ rest → IsPool front pool → ⊥) → BeginsWithPool bytes → ⊥
+no_pool bytes none b = none b.pool b.front b.rest b.begins b.is_pool
