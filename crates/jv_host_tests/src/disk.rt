@@ -1,6 +1,7 @@
 //! Folders and files in memory.
 ghost use Rattle.std.specs.Prelude.{None};
 
+use crate::beyond::{CONSTANT, DADD, DYNAMIC, FIELD, FLAGS, NAMED};
 use crate::files::{ECHO_FILE, HI};
 use jv_program_base::Folders;
 use std::io;
@@ -127,7 +128,7 @@ static LISTINGS: [Held; 13] = [
 ];
 
 /// The files.
-static FILES: [Held; 18] = [
+static FILES: [Held; 24] = [
     Held {
         path: "ho/Hi.class",
         bytes: HI,
@@ -235,6 +236,42 @@ static FILES: [Held; 18] = [
         bytes: HI,
         piece: 100,
         good: 1,
+    },
+    Held {
+        path: "F.class",
+        bytes: FIELD,
+        piece: 4096,
+        good: ALL,
+    },
+    Held {
+        path: "S.class",
+        bytes: FLAGS,
+        piece: 4096,
+        good: ALL,
+    },
+    Held {
+        path: "D.class",
+        bytes: DADD,
+        piece: 4096,
+        good: ALL,
+    },
+    Held {
+        path: "L.class",
+        bytes: DYNAMIC,
+        piece: 4096,
+        good: ALL,
+    },
+    Held {
+        path: "U.class",
+        bytes: NAMED,
+        piece: 4096,
+        good: ALL,
+    },
+    Held {
+        path: "K.class",
+        bytes: CONSTANT,
+        piece: 4096,
+        good: ALL,
     },
 ];
 

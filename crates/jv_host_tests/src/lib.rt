@@ -4,6 +4,8 @@
 #![tactic(auto)]
 
 #[cfg(test)]
+mod beyond;
+#[cfg(test)]
 mod calls;
 #[cfg(test)]
 mod disk;
@@ -21,6 +23,10 @@ mod hostile;
 mod json;
 #[cfg(test)]
 mod known;
+#[cfg(test)]
+mod library;
+#[cfg(test)]
+mod malformed;
 #[cfg(test)]
 mod memory;
 #[cfg(test)]
