@@ -45,7 +45,8 @@ fn is_said(alloc: Global, bytes: &[u8], text: &str) -> bool {
 
 /// Whether it is said of each front of a class file that holds its pool, which takes 117 bytes with the start.
 fn fronts_are_right(alloc: Global) -> bool {
-    let text = "  behind the constant pool: a part is cut off or left over, or an attribute may not stand so (JVMS 4.1, 4.7)\n";
+    let text =
+        "  behind the constant pool: a part is cut off or left over, or an attribute may not stand so (JVMS 4.1, 4.7)\n";
     for end in 117..HI.len() {
         if !is_said(alloc, &HI[..end], text) {
             return false;
