@@ -13,6 +13,7 @@ use Rattle.jv_meaning_world.specs.declared.verdict.LoadVerdict.{LoadVerdict}
 use Rattle.jv_meaning_world.specs.declared.verdict.LoadVerdict.TheVariants.{Circular, NoSuper, WrongKind, NoAccess, FinalBroken}
 use Rattle.jv_program_base.specs.Escape.{escaped_text}
 use Rattle.jv_explain.specs.Finals.{finals_text}
+use Rattle.jv_explain.specs.Names.{name_text}
 use Rattle.jv_explain.specs.declared.supers.SuperFault.{SuperFault}
 use Rattle.jv_explain.specs.declared.supers.SuperFault.TheVariants.{Missing, Unloadable, Below, Interface, NoInterface, Closed, Final}
 
@@ -79,9 +80,10 @@ supers_text world why None = []
 supers_text world why (Some l) =
     blamed_text world l why (find (λ s. is_some (super_fault world l why s)) (direct_supers l.class)) ++ finals_text world why l
 
--- of the class of this name in the world: the direct super that is blamed, and the final method that is overridden, where there are these
+-- of a class of this name: its name, where the verdict is about that; and of the one in the world the direct super that is blamed, and
+-- the final method that is overridden, where there are these
 abbrev pub refusal_text : World → (name : List ℕ) → LoadVerdict → List ℕ
-refusal_text world name why = supers_text world why (class_named world name)
+refusal_text world name why = name_text why name ++ supers_text world why (class_named world name)
 
 -- of a file whose class has this verdict
 abbrev pub IsRefusalTold : World → FileContent → LoadVerdict → List ℕ → Type 0

@@ -8,9 +8,10 @@ ghost use Rattle.jv_meaning_world.specs.FileContent.{FileContent, IsContent};
 ghost use Rattle.jv_meaning_world.specs.Numbers.{HoldsAtBoth, HoldsAtNumber};
 ghost use Rattle.jv_meaning_world.specs.World.{class_named};
 ghost use Rattle.jv_explain.specs.Inside.Blamed.{blamed_in, blamed_line, found_text};
-ghost use Rattle.jv_explain.specs.Supers.{IsRefusalTold, fault_if, fault_of, fault_text, refusal_text};
+ghost use Rattle.jv_explain.specs.Supers.{IsRefusalTold, fault_if, fault_of, fault_text, refusal_text, supers_text};
 
 use crate::finals::finals_told;
+use crate::names::name_told;
 use jv_loader::{ClassTable, Classes, LoadVerdict, OutOfMemory, read_content};
 use jv_meaning_world::{Content, one_content};
 use jv_program_base::Escaped;
@@ -187,14 +188,14 @@ fn blamed_told(
     }
 }
 
-/// What is said of a verdict on the class of this name, which came before its methods were looked at.
-fn explain_class(
+/// What is said of the supers of the class of this name, where a verdict that came before its methods were looked at is about these.
+fn supers_told(
     alloc: Global,
     classes: &Classes<'_>,
     name: &[u8],
     why: LoadVerdict,
 ) -> Result<String, AllocError>
-    ensures { IfOk result (λ text. string_bytes text ≡ refusal_text classes.now.world name.now why) }
+    ensures { IfOk result (λ text. string_bytes text ≡ supers_text classes.now.world why (class_named classes.now.world name.now)) }
 {
     let table = classes.table();
     let Some(class) = table.find(name) else {
@@ -206,10 +207,25 @@ fn explain_class(
     Ok(text)
 }
 
-/// What is said of a file with these bytes whose class is refused among these before its methods were looked at: the first direct super
-/// that the verdict is about, and what is wrong with it (JVMS 5.3.5, 4.10), where it is about one, and the first final method of a
-/// superclass that the class overrides itself (5.4.5), where it is about these; else nothing. It costs a look-up for each final method of
-/// the superclasses.
+/// What is said of a verdict on the class of this name, which came before its methods were looked at.
+fn explain_class(
+    alloc: Global,
+    classes: &Classes<'_>,
+    name: &[u8],
+    why: LoadVerdict,
+) -> Result<String, AllocError>
+    ensures { IfOk result (λ text. string_bytes text ≡ refusal_text classes.now.world name.now why) }
+{
+    let mut text = name_told(alloc, name, why)?;
+    let supers = supers_told(alloc, classes, name, why)?;
+    text.push_str(&supers)?;
+    Ok(text)
+}
+
+/// What is said of a file with these bytes whose class is refused among these before its methods were looked at: its name, where the
+/// verdict is about that; the first direct super that it is about, and what is wrong with it (JVMS 5.3.5, 4.10), where it is about one, and
+/// the first final method of a superclass that the class overrides itself (5.4.5), where it is about these; else nothing. It costs a
+/// look-up for each final method of the superclasses.
 ///
 /// # Errors
 ///

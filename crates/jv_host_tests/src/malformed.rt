@@ -1,7 +1,7 @@
-//! What is said of bytes that are no class file.
+//! What is said of bytes that are no class file, and of files of another version.
 
 use crate::files::HI;
-use jv_malformed::explain_malformed;
+use jv_malformed::{explain_malformed, explain_version};
 use std::alloc::Global;
 
 /// A class file of two constants, the first of which has the tag 99, as none has.
@@ -61,4 +61,22 @@ fn malformed(rt: HostRuntime) {
         assert!(rt; is_said(rt.alloc(), bytes, text));
     }
     assert!(rt; fronts_are_right(rt.alloc()));
+}
+
+/// Whether this is said of a file with this version and nothing else, by the eight bytes at its start.
+fn is_version_said(alloc: Global, bytes: &[u8], text: &str) -> bool {
+    match explain_version(alloc, bytes) {
+        Ok(said) => said.as_str() == text,
+        Err(_) => false,
+    }
+}
+
+#[test]
+fn other_versions(rt: HostRuntime) {
+    let later =
+        "  version 61.0: this host reads 50.0, 51.0 and 52.0 (JVMS 4.1), the last of which javac makes by --release 8\n";
+    let preview =
+        "  version 52.1: this host reads 50.0, 51.0 and 52.0 (JVMS 4.1), the last of which javac makes by --release 8\n";
+    assert!(rt; is_version_said(rt.alloc(), b"\xca\xfe\xba\xbe\x00\x00\x00\x3d", later));
+    assert!(rt; is_version_said(rt.alloc(), b"\xca\xfe\xba\xbe\x00\x01\x00\x34", preview));
 }

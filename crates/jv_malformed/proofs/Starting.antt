@@ -1,6 +1,6 @@
 -- Bytes that begin like a class file, and what is at fault behind that.
 use Rattle.std.proofs.Common.{◌≡◌, ℕ, Bool, true, false, List, ◌++◌, Option, Some, None, sym, ap, ◌∙◌, refl}
-use Rattle.std.specs.Prelude.{IsTrue, take, drop}
+use Rattle.std.specs.Prelude.{take, drop}
 use Rattle.std.proofs.lemmas.Bool.{and_parts, and_from, ltb-true, lt-ltb}
 use Rattle.jv_format.specs.Format.{IsBytes, half, quad}
 use Rattle.jv_format.specs.Readers.{both}
@@ -12,12 +12,14 @@ use Rattle.jv_class_structure.specs.Parts.{IsBehindVersion}
 use Rattle.jv_class_structure.specs.Structure.{ClassStructure}
 use Rattle.jv_class_structure.specs.Version.{is_supported_version}
 use Rattle.jv_class.specs.Inside.Reading.{Three, magic_number, header}
+use Rattle.jv_class.specs.ClassFile.{IsOtherVersion}
 use Rattle.jv_class.specs.Rules.{KeepsClassRules}
 use Rattle.jv_class.proofs.Whole.{other_version, not_supported, class_from_behind}
 use Rattle.jv_meaning_world.specs.FileContent.{IsContent}
 use Rattle.jv_meaning_world.specs.declared.content.Content.TheVariants.{NoClassFile}
 use Rattle.jv_malformed.specs.Part.{BeginsBefore, BeginsWithPool, IsFaultyPart}
 use Rattle.jv_malformed.specs.Inside.Behind.{IsFaultyBehind}
+use Rattle.jv_malformed.specs.Text.{TellsVersion, version_text}
 use Rattle.jv_malformed.specs.declared.part.FaultyPart.{FaultyPart}
 use Rattle.jv_malformed.specs.declared.part.FaultyPart.TheVariants.{Start, Constants, Structure, Rules}
 
@@ -73,3 +75,15 @@ pool_there bytes pool n is =
 
 pub no_pool : (bytes : List ℕ) → ((pool : List Entry) (front rest : List ℕ) → bytes ≡ front ++ rest → IsPool front pool → ⊥) → BeginsWithPool bytes → ⊥
 no_pool bytes none b = none b.pool b.front b.rest b.begins b.is_pool
+
+one_found : {A : Type 0} (x y : A) → Some x ≡ Some y → x ≡ y
+one_found x y both = cc
+
+-- the version that is read is the one of the bytes
+pub version_told : (bytes rest : List ℕ) (minor major : ℕ) → header.read bytes ≡ Some (numbers minor major, rest)
+    → (text : List ℕ) → text ≡ version_text minor major → IsOtherVersion bytes → TellsVersion bytes text
+version_told bytes rest minor major found text told o =
+    let fits = and_from (half.fits o.minor) (half.fits o.major) (lt-ltb o.minor 65536 o.minor_fits) (lt-ltb o.major 65536 o.major_fits) in
+    let some = ap header.read o.begins ∙ header_is.again (numbers o.minor o.major) o.rest fits in
+    let same : (numbers minor major, rest) ≡ (numbers o.minor o.major, o.rest) = one_found _ _ (sym found ∙ some) in
+    record { other = o; told = told ∙ ap (λ (x : Three × List ℕ). version_text x.0.1.0 x.0.1.1) same }

@@ -1,5 +1,7 @@
--- What is said of the part at fault, as text (own).
+-- What is said of bytes that hold no class of a version that this host reads, as text (own).
 use Rattle.std.specs.Prelude.{◌≡◌, ℕ, List, [], ◌∷◌, ◌++◌, codes}
+use Rattle.std.specs.Fmt.{decimal}
+use Rattle.jv_class.specs.ClassFile.{IsOtherVersion}
 use Rattle.jv_malformed.specs.Part.{IsFaultyPart}
 use Rattle.jv_malformed.specs.declared.part.FaultyPart.{FaultyPart}
 use Rattle.jv_malformed.specs.declared.part.FaultyPart.TheVariants.{Start, Constants, Structure, Rules}
@@ -16,3 +18,14 @@ part_text Rules =
 -- of the part at which the bytes stop being a class file
 abbrev pub TellsFault : (bytes text : List ℕ) → Type 0
 TellsFault bytes text = (part : FaultyPart) × IsFaultyPart bytes part × (text ≡ part_text part)
+
+-- ---- of another version (4.1): which one
+
+abbrev pub version_text : (minor major : ℕ) → List ℕ
+version_text minor major =
+    codes "  version " ++ decimal major ++ codes "." ++ decimal minor
+    ++ codes ": this host reads 50.0, 51.0 and 52.0 (JVMS 4.1), the last of which javac makes by --release 8" ++ 10 ∷ []
+
+pub record TellsVersion (bytes text : List ℕ) : Type 0 where
+  pub other : IsOtherVersion bytes
+  pub told : text ≡ version_text other.minor other.major

@@ -1,8 +1,11 @@
-//! In which part bytes that are no class file break the rules of one, for people (JVMS 4.1).
+//! What is said of bytes that hold no class, for people: in which part they break the rules of a class file, or which version they are of
+//! (JVMS 4.1).
 #![tactic(auto)]
 
 mod part;
 mod text;
+mod version;
 
 pub use part::{FaultyPart, faulty_part};
 pub use text::explain_malformed;
+pub use version::explain_version;

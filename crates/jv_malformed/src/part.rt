@@ -41,7 +41,7 @@ fn magic_at(bytes: &[u8]) -> Option<&[u8]>
 }
 
 /// The minor and the major version behind the magic number, and what follows.
-fn version_at(bytes: &[u8]) -> Option<((u16, u16), &[u8])>
+pub(crate) fn version_at(bytes: &[u8]) -> Option<((u16, u16), &[u8])>
     ensures { Finds header bytes.now (λ x. ((3405691582, (x.0.0, x.0.1)), x.1.now)) result }
 {
     let Some(rest) = magic_at(bytes) else {

@@ -1,5 +1,5 @@
--- The verdicts `Format` and `Unsupported`, which are on bytes that are no class file and on files with more than the profile, and what is
--- said of other files.
+-- The verdicts `Version`, `Format` and `Unsupported`, which are on bytes of another version, on bytes that are no class file and on files
+-- with more than the profile, and what is said of other files.
 use Rattle.std.proofs.Common.{◌≡◌, ◌∙◌, Bool, true, false, ℕ, List, Option, Some, None, refl, ap, sym, take}
 use Rattle.std.specs.Prelude.{if◌then◌else◌, slice_get}
 use Rattle.jv_class.specs.Class.{Class}
@@ -18,9 +18,10 @@ use Rattle.jv_program_explain.specs.Explain.{IsRefusedTold}
 use Rattle.jv_program_explain.specs.Inside.Numbered.{IsContentFor, why_of}
 use Rattle.jv_program_explain.proofs.Numbering.{why_is}
 
--- ---- no class has one of these two verdicts
+-- ---- no class has one of these verdicts
 
 abbrev is_other : Option LoadVerdict → Bool
+is_other (Some whys.Version) = false
 is_other (Some whys.Format) = false
 is_other (Some whys.Unsupported) = false
 is_other why = true
@@ -68,11 +69,20 @@ of_holder host earlier world class = either _ (Some whys.Reserved) _ reserved (e
 not_both : (b : Bool) → b ≡ true → b ≡ false → ⊥
 not_both b on off = cc
 
+no_version : (why : Option LoadVerdict) → IsOther why → why ≡ Some whys.Version → ⊥
+no_version why h e = not_both (is_other why) h.other (ap is_other e)
+
 no_format : (why : Option LoadVerdict) → IsOther why → why ≡ Some whys.Format → ⊥
 no_format why h e = not_both (is_other why) h.other (ap is_other e)
 
 no_unsupported : (why : Option LoadVerdict) → IsOther why → why ≡ Some whys.Unsupported → ⊥
 no_unsupported why h e = not_both (is_other why) h.other (ap is_other e)
+
+format_no_version : Some whys.Format ≡ Some whys.Version → ⊥
+format_no_version e = cc
+
+unsupported_no_version : Some whys.Unsupported ≡ Some whys.Version → ⊥
+unsupported_no_version e = cc
 
 version_no_format : Some whys.Version ≡ Some whys.Format → ⊥
 version_no_format e = cc
@@ -85,6 +95,12 @@ version_no_unsupported e = cc
 
 format_no_unsupported : Some whys.Format ≡ Some whys.Unsupported → ⊥
 format_no_unsupported e = cc
+
+of_version : (host : HostClasses) (earlier : List FileContent) (world : World) (f : FileContent) → verdict_behind host earlier world f ≡ Some whys.Version → f ≡ OtherVersion
+of_version host earlier world OtherVersion e = refl
+of_version host earlier world NoClassFile e = absurd (format_no_version e)
+of_version host earlier world MoreThanProfile e = absurd (unsupported_no_version e)
+of_version host earlier world (Holds class) e = absurd (no_version _ (of_holder host earlier world class) e)
 
 malformed : (host : HostClasses) (earlier : List FileContent) (world : World) (f : FileContent) → verdict_behind host earlier world f ≡ Some whys.Format → f ≡ NoClassFile
 malformed host earlier world OtherVersion e = absurd (version_no_format e)
@@ -103,7 +119,7 @@ for_verdict host earlier world f Accepted e = tt
 for_verdict host earlier world f (Verify fault) e = tt
 for_verdict host earlier world f (Refused whys.Format) e = malformed host earlier world f e
 for_verdict host earlier world f (Refused whys.Unsupported) e = beyond host earlier world f e
-for_verdict host earlier world f (Refused whys.Version) e = tt
+for_verdict host earlier world f (Refused whys.Version) e = of_version host earlier world f e
 for_verdict host earlier world f (Refused whys.Reserved) e = tt
 for_verdict host earlier world f (Refused whys.Duplicate) e = tt
 for_verdict host earlier world f (Refused whys.Circular) e = tt
@@ -122,15 +138,15 @@ module _ (given : List Class) (contents : List FileContent) (verdicts : List Ver
 
 -- ---- what is said of others
 
-pub refused_otherwise : (world : World) (bytes : List ℕ) (content : FileContent) (why : LoadVerdict) (text : List ℕ) → (why ≡ whys.Format → ⊥)
-    → (why ≡ whys.Unsupported → ⊥) → IsRefusalTold world content why text → IsRefusedTold world bytes content why text
-refused_otherwise world bytes content whys.Format text one other h = absurd (one refl)
-refused_otherwise world bytes content whys.Unsupported text one other h = absurd (other refl)
-refused_otherwise world bytes content whys.Version text one other h = h
-refused_otherwise world bytes content whys.Reserved text one other h = h
-refused_otherwise world bytes content whys.Duplicate text one other h = h
-refused_otherwise world bytes content whys.Circular text one other h = h
-refused_otherwise world bytes content whys.NoSuper text one other h = h
-refused_otherwise world bytes content whys.WrongKind text one other h = h
-refused_otherwise world bytes content whys.NoAccess text one other h = h
-refused_otherwise world bytes content whys.FinalBroken text one other h = h
+pub refused_otherwise : (world : World) (bytes : List ℕ) (content : FileContent) (why : LoadVerdict) (text : List ℕ) → (why ≡ whys.Version → ⊥)
+    → (why ≡ whys.Format → ⊥) → (why ≡ whys.Unsupported → ⊥) → IsRefusalTold world content why text → IsRefusedTold world bytes content why text
+refused_otherwise world bytes content whys.Version text version format more h = absurd (version refl)
+refused_otherwise world bytes content whys.Format text version format more h = absurd (format refl)
+refused_otherwise world bytes content whys.Unsupported text version format more h = absurd (more refl)
+refused_otherwise world bytes content whys.Reserved text version format more h = h
+refused_otherwise world bytes content whys.Duplicate text version format more h = h
+refused_otherwise world bytes content whys.Circular text version format more h = h
+refused_otherwise world bytes content whys.NoSuper text version format more h = h
+refused_otherwise world bytes content whys.WrongKind text version format more h = h
+refused_otherwise world bytes content whys.NoAccess text version format more h = h
+refused_otherwise world bytes content whys.FinalBroken text version format more h = h

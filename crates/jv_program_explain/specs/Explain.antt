@@ -4,7 +4,7 @@ use Rattle.jv_class.specs.Class.{Class}
 use Rattle.jv_meaning_world.specs.FileContent.{FileContent}
 use Rattle.jv_meaning_world.specs.declared.content.Content.TheVariants.{Holds}
 use Rattle.jv_meaning_world.specs.declared.verdict.LoadVerdict.{LoadVerdict}
-use Rattle.jv_meaning_world.specs.declared.verdict.LoadVerdict.TheVariants.{Format, Unsupported}
+use Rattle.jv_meaning_world.specs.declared.verdict.LoadVerdict.TheVariants.{Format, Unsupported, Version}
 use Rattle.jv_meaning_world.specs.Library.{with_library}
 use Rattle.jv_meaning_world.specs.World.{World, loaded, world_of}
 use Rattle.jv_meaning_typing.specs.declared.verdict.Verdict.{Verdict}
@@ -14,7 +14,7 @@ use Rattle.jv_verify.specs.Files.{AreFilesOf, HostStands, Verified}
 use Rattle.jv_program_base.specs.declared.outcome.Outcome.{Outcome}
 use Rattle.jv_program_check.specs.Text.{check_status}
 use Rattle.jv_beyond.specs.Text.{TellsBeyond}
-use Rattle.jv_malformed.specs.Text.{TellsFault}
+use Rattle.jv_malformed.specs.Text.{TellsFault, TellsVersion}
 use Rattle.jv_explain.specs.Explained.{IsExplanation}
 use Rattle.jv_explain.specs.Supers.{IsRefusalTold}
 use Rattle.jv_links.specs.Text.{AreLinksTold}
@@ -59,9 +59,10 @@ pub record IsExplainedBy (s : ExplainSettings) (world : World) (content : FileCo
   pub shown : AreFramesShown world content verdict frames
   pub told : IsExplanation content verdict above frames text
 
--- what is said of a refusal, of a file with these bytes: of one that is no class file the first part that is at fault, of one with more
--- than the profile the first that is beyond it, else what its class was refused for
+-- what is said of a refusal, of a file with these bytes: of one of another version which it is, of one that is no class file the first part
+-- that is at fault, of one with more than the profile the first that is beyond it, else what its class was refused for
 abbrev pub IsRefusedTold : World → (bytes : List ℕ) → FileContent → LoadVerdict → List ℕ → Type 0
+IsRefusedTold world bytes content Version text = TellsVersion bytes text
 IsRefusedTold world bytes content Format text = TellsFault bytes text
 IsRefusedTold world bytes content Unsupported text = TellsBeyond bytes text
 IsRefusedTold world bytes content why text = IsRefusalTold world content why text

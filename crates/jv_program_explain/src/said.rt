@@ -23,7 +23,7 @@ use jv_beyond::explain_unsupported;
 use jv_explain::{explain_file, explain_refusal};
 use jv_links::explain_links;
 use jv_loader::{Classes, LoadVerdict, OutOfMemory};
-use jv_malformed::explain_malformed;
+use jv_malformed::{explain_malformed, explain_version};
 use jv_meaning_typing::Verdict;
 use jv_program_base::{bytes_at, verdict_at};
 use jv_verify::Verified;
@@ -101,6 +101,7 @@ fn refused_told(
         → IsRefusedTold classes.now.world bytes.now content why (string_bytes text)) }
 {
     match why {
+        LoadVerdict::Version => Ok(explain_version(alloc, bytes)?),
         LoadVerdict::Format => Ok(explain_malformed(alloc, bytes)?),
         LoadVerdict::Unsupported => Ok(explain_unsupported(alloc, bytes)?),
         _ => explain_refusal(alloc, classes, bytes, why),

@@ -1,5 +1,5 @@
 -- What the code finds behind a version.
-use Rattle.std.specs.Prelude.{◌≡◌, ℕ, List}
+use Rattle.std.specs.Prelude.{ℕ, List}
 use Rattle.jv_class_structure.specs.Parts.{IsBehindVersion}
 use Rattle.jv_class_structure.specs.Structure.{ClassStructure}
 use Rattle.jv_malformed.specs.Part.{BeginsWithPool}

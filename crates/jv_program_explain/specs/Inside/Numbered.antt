@@ -2,9 +2,9 @@
 use Rattle.std.specs.Prelude.{◌≡◌, ◌<◌, ⊤, ℕ, Bool, true, false, length, Option, Some, None, slice_get}
 use Rattle.jv_class.specs.Class.{Class}
 use Rattle.jv_meaning_world.specs.FileContent.{FileContent}
-use Rattle.jv_meaning_world.specs.declared.content.Content.TheVariants.{Holds, MoreThanProfile, NoClassFile}
+use Rattle.jv_meaning_world.specs.declared.content.Content.TheVariants.{Holds, MoreThanProfile, NoClassFile, OtherVersion}
 use Rattle.jv_meaning_world.specs.declared.verdict.LoadVerdict.{LoadVerdict}
-use Rattle.jv_meaning_world.specs.declared.verdict.LoadVerdict.TheVariants.{Format, Unsupported}
+use Rattle.jv_meaning_world.specs.declared.verdict.LoadVerdict.TheVariants.{Format, Unsupported, Version}
 use Rattle.jv_meaning_world.specs.Numbers.{HoldsAtNumber}
 use Rattle.jv_meaning_world.specs.World.{World, loaded}
 use Rattle.jv_meaning_typing.specs.declared.verdict.Verdict.{Verdict}
@@ -31,8 +31,10 @@ pub record IsJudgedAt (world : World) (number : ℕ) (verdict : Verdict) : Type 
 abbrev pub StandsAt : World → ℕ → FileContent → Type 0
 StandsAt world number content = (class : Class) → content ≡ Holds class → slice_get world number ≡ Some (loaded false class)
 
--- `Format` is the verdict on bytes that are no class file alone, and `Unsupported` that on a file with more than the profile
+-- `Version` is the verdict on bytes of another version alone, `Format` that on bytes that are no class file, and `Unsupported` that on a
+-- file with more than the profile
 abbrev pub IsContentFor : Verdict → FileContent → Type 0
+IsContentFor (verdicts.Refused Version) content = content ≡ OtherVersion
 IsContentFor (verdicts.Refused Format) content = content ≡ NoClassFile
 IsContentFor (verdicts.Refused Unsupported) content = content ≡ MoreThanProfile
 IsContentFor verdict content = ⊤

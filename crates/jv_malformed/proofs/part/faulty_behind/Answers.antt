@@ -1,4 +1,4 @@
-use Rattle.jv_malformed.proofs.Starting.{pool_there, no_pool}
+use Rattle.jv_malformed.proofs.Starting.{pool_there}
 use Rattle.jv_malformed.proofs.part.faulty_behind.Goals as goal
 
 pub faulty_behind_pool-requires : goal.faulty_behind_pool-requires

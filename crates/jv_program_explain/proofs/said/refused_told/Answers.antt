@@ -7,5 +7,6 @@ pub returns-in_default : goal.returns-in_default
 returns-in_default c =
     IfOk-weaker c.explain_refusal.result _ _
     (λ text told content is for.
-    refused_otherwise c.args.classes.now.world c.args.bytes.now content c.args.why (string_bytes text) c.in_default.not-Format c.in_default.not-Unsupported (told content is))
+    refused_otherwise c.args.classes.now.world c.args.bytes.now content c.args.why (string_bytes text) c.in_default.not-Version c.in_default.not-Format
+    c.in_default.not-Unsupported (told content is))
     c.explain_refusal.ensures
