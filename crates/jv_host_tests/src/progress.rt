@@ -1,4 +1,4 @@
-//! What `--progress` and `--time` tell, and where.
+//! What `--progress` and `--time` tell, and where; and that there is more to say of a file that is refused.
 
 use crate::disk::{Memory, Pieces};
 use crate::program::words_of;
@@ -96,6 +96,7 @@ fn tells(
         &mut err,
         &mut company,
     );
+    company.tell_of_explain(words.as_slice(), ends);
     company.tell_time();
     ends == status && bytes.as_slice() == text && err.0.is_empty()
 }
@@ -158,6 +159,34 @@ fn the_time_is_told_where_there_is_no_terminal(rt: HostRuntime) {
     let line = "jvhost run --time --quantum 2 --rounds 3 p hi";
     let passes = match RandomState::new(&rt) {
         Ok(state) => tells(rt.alloc(), state, line, false, 5, b"processor 7 ms\n"),
+        Err(_) => false,
+    };
+    assert!(rt; passes);
+}
+
+#[test]
+fn a_check_that_refuses_tells_of_explain_at_a_terminal(rt: HostRuntime) {
+    let line = "jvhost check hi/Hi.class hi/Hi.class";
+    let text = b"jvhost: explain in place of check says why\n";
+    let passes = match RandomState::new(&rt) {
+        Ok(state) => {
+            tells(rt.alloc(), state, line, true, 1, text)
+                && tells(rt.alloc(), state, line, false, 1, b"")
+        }
+        Err(_) => false,
+    };
+    assert!(rt; passes);
+}
+
+#[test]
+fn others_tell_nothing_of_explain(rt: HostRuntime) {
+    let accepted = "jvhost check hi/Hi.class";
+    let explained = "jvhost explain hi/Hi.class hi/Hi.class";
+    let passes = match RandomState::new(&rt) {
+        Ok(state) => {
+            tells(rt.alloc(), state, accepted, true, 0, b"")
+                && tells(rt.alloc(), state, explained, true, 1, b"")
+        }
         Err(_) => false,
     };
     assert!(rt; passes);

@@ -1,4 +1,5 @@
-//! What is told of a run beside its report: a line of a terminal that says how far it is, and how long the processor took.
+//! What is told beside a report: a line of a terminal that says how far a run is, how long the processor took, and that there is more to
+//! say of a file that was refused.
 
 use jv_program_run::{Progress, Unwatched, Watch};
 use std::io::{IsTerminal, Write};
@@ -6,6 +7,9 @@ use std::time::{Clock, CpuClock, Duration, Instant};
 
 /// The seconds between two times that it is told.
 const PAUSE: u64 = 1;
+
+/// The status of a check that found a verdict other than `Accepted`.
+const REFUSED: u8 = 1;
 
 /// Who is told of a run beside its report.
 pub trait Company: Watch {
@@ -54,6 +58,24 @@ impl<C: CpuClock, T: Write> ProgressLine<'_, C, T> {
         if let Ok(time) = self.clock.process_cpu_time() {
             let millis = time.as_millis();
             let _ = write!(self.to, "processor {millis} ms\n");
+        }
+    }
+}
+
+/// Whether the words, of which the first is the program's name, ask for the verdicts on files, and for no more.
+fn ask_for_check(words: &[String]) -> bool {
+    match words.get(1) {
+        Some(word) => word.as_str() == "check",
+        None => false,
+    }
+}
+
+impl<C: Clock, T: Write> ProgressLine<'_, C, T> {
+    /// Tells on a terminal that there is more to say, where the words asked for the verdicts on files, and the program ends with the status
+    /// of a file that was refused.
+    pub fn tell_of_explain(&mut self, words: &[String], status: u8) {
+        if self.is_terminal && status == REFUSED && ask_for_check(words) {
+            let _ = write!(self.to, "jvhost: explain in place of check says why\n");
         }
     }
 }

@@ -32,16 +32,20 @@ fn main(rt: HostRuntime) -> ExitCode {
     let mut err = Stream(rt.stderr());
     let mut company = ProgressLine::new(&rt, rt.stderr());
     let status = match given(&rt) {
-        Ok((words, state)) => command_watched(
-            rt.alloc(),
-            state,
-            words.as_slice(),
-            &mut SystemFolders(&rt),
-            &mut rt.stdin(),
-            &mut out,
-            &mut err,
-            &mut company,
-        ),
+        Ok((words, state)) => {
+            let status = command_watched(
+                rt.alloc(),
+                state,
+                words.as_slice(),
+                &mut SystemFolders(&rt),
+                &mut rt.stdin(),
+                &mut out,
+                &mut err,
+                &mut company,
+            );
+            company.tell_of_explain(words.as_slice(), status);
+            status
+        }
         Err(stop) => {
             let _ = tell(&stop, &mut out, &mut err);
             stop.status()
