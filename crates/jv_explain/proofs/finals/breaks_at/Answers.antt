@@ -1,7 +1,6 @@
 use Rattle.std.proofs.Common.{sym, ap, ◌∙◌}
 use Rattle.std.specs.Prelude.{slice_get}
 use Rattle.std.specs.Option.{option_and_then}
-use Rattle.jv_class.specs.Class.{method_named}
 use Rattle.jv_classes.specs.Members.{IsMethod}
 use Rattle.jv_explain.proofs.BrokenFinals.{itself, no_instance, none_named, not_final, of_some, some_and}
 use Rattle.jv_explain.proofs.finals.breaks_at.Goals as goal
