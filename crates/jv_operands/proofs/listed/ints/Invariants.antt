@@ -1,0 +1,9 @@
+use Rattle.std.proofs.Common.{◌≡◌}
+use Rattle.std.specs.Prelude.{map, replicate}
+use Rattle.jv_stackmap.specs.declared.verification.VerificationTypeOf.TheVariants as types
+use Rattle.jv_operands.specs.Seen.{seen_want}
+use Rattle.jv_operands.specs.Wants.{of_type}
+use Rattle.jv_operands.proofs.listed.ints.Given as goal
+
+abbrev pub invariant-loop-place : goal.invariant-loop-place
+invariant-loop-place l = map seen_want l.list.items ≡ replicate l.place (of_type types.Int)

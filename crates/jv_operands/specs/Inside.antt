@@ -1,0 +1,4 @@
+pub mod Listed
+pub mod Locals
+pub mod Met
+pub mod Named
