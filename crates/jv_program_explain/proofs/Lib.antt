@@ -9,3 +9,4 @@ pub mod Numbering
 pub mod Saying
 pub mod Typed
 pub mod Wanted
+pub mod UnmetWants

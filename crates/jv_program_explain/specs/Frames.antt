@@ -1,6 +1,7 @@
 -- The frames that are shown where a method breaks a rule (JVMS 4.10.1.6).
 use Rattle.std.specs.Prelude.{◌≡◌, ℕ, false, List, [], ◌∷◌, ◌++◌, codes, Option, Some, None, slice_get}
 use Rattle.std.specs.Fmt.{decimal}
+use Rattle.jv_format.specs.Format.{◌>>=◌}
 use Rattle.jv_class.specs.Class.{Method}
 use Rattle.jv_stackmap.specs.Frames.{Frame}
 use Rattle.jv_stackmap.specs.Types.{FrameType}
@@ -13,7 +14,10 @@ use Rattle.jv_meaning_typing.specs.declared.verdict.VerifyRule.TheVariants as ru
 use Rattle.jv_meaning_typing.specs.declared.verdict.VerifyFault.{VerifyFault}
 use Rattle.jv_meaning_typing.specs.declared.verdict.Verdict.{Verdict}
 use Rattle.jv_meaning_typing.specs.declared.verdict.Verdict.TheVariants.{Verify}
+use Rattle.jv_meaning_typing.specs.Environment.{Environment, instruction_at}
 use Rattle.jv_meaning_typing.specs.Judgement.{WithFrames}
+use Rattle.jv_operands.specs.Text.{unmet_line}
+use Rattle.jv_operands.specs.Unmet.{Unmet as UnmetWant, first_unmet}
 use Rattle.jv_shown.specs.Frames.{frame_text, type_text}
 use Rattle.jv_shown.specs.Instructions.{first_of}
 use Rattle.jv_verify.specs.Before.{StandBefore}
@@ -65,15 +69,27 @@ abbrev pub unmet_text : (whose : List ℕ) → Option Unmet → List ℕ
 unmet_text whose None = []
 unmet_text whose (Some u) = frame_text whose u.frame ++ goes_on_text u.to ++ there_text u.frame u.map u.differ
 
+-- ---- what an instruction wants of the frame before it
+
+-- the first want of the instruction at an offset that the frame doesn't meet
+abbrev pub unmet_want_at : Environment → ℕ → Option Frame → Option UnmetWant
+unmet_want_at env pc before = before >>= λ frame. instruction_at env pc >>= λ insn. first_unmet env insn frame
+
+abbrev pub want_text : Option UnmetWant → List ℕ
+want_text None = []
+want_text (Some u) = unmet_line u
+
 -- ---- by the rule that is broken
 
 -- where what falls there is not merged into the stack map's frame both; else the frame before the instruction: that of the stack map,
--- where it has one there, and what falls there, where it has none; and of handlers and of targets what goes on from the instruction
-abbrev pub frames_text : VerifyRule → (falling map : Option Frame) → Option Unmet → List ℕ
-frames_text rules.Merge falling map unmet = both_text falling map
-frames_text rules.CoveredHandler falling map unmet = some_text [] (first_of map falling) ++ unmet_text (codes "thrown ") unmet
-frames_text rules.BranchTarget falling map unmet = some_text [] (first_of map falling) ++ unmet_text (codes "left ") unmet
-frames_text rule falling map unmet = both_text (first_of map falling) None
+-- where it has one there, and what falls there, where it has none; and of handlers and of targets what goes on from the instruction, of
+-- an instruction that is not type safe what it wants first of that frame that isn't there
+abbrev pub frames_text : VerifyRule → (falling map : Option Frame) → Option Unmet → Option UnmetWant → List ℕ
+frames_text rules.Merge falling map unmet want = both_text falling map
+frames_text rules.CoveredHandler falling map unmet want = some_text [] (first_of map falling) ++ unmet_text (codes "thrown ") unmet
+frames_text rules.Instruction falling map unmet want = some_text [] (first_of map falling) ++ want_text want
+frames_text rules.BranchTarget falling map unmet want = some_text [] (first_of map falling) ++ unmet_text (codes "left ") unmet
+frames_text rule falling map unmet want = both_text (first_of map falling) None
 
 -- the frames before the instruction
 pub record ShowsFrames (world : World) (l : Loaded) (fault : VerifyFault) (text : List ℕ) : Type 0 where
@@ -82,8 +98,10 @@ pub record ShowsFrames (world : World) (l : Loaded) (fault : VerifyFault) (text 
   pub falling : Option Frame
   pub map : Option Frame
   pub unmet : Option Unmet
-  pub before : WithFrames world (declared_by l method) (λ env maps. StandBefore env maps fault.offset falling map unmet)
-  pub told : text ≡ frames_text fault.rule falling map unmet
+  pub want : Option UnmetWant
+  pub before : WithFrames world (declared_by l method) (λ env maps. StandBefore env maps fault.offset falling map unmet
+      × (unmet_want_at env fault.offset (first_of map falling) ≡ want))
+  pub told : text ≡ frames_text fault.rule falling map unmet want
 
 -- rules on the whole code are broken at no instruction
 abbrev pub ShowsFramesOf : World → Loaded → VerifyFault → VerifyRule → List ℕ → Type 0

@@ -1,3 +1,4 @@
 pub mod Below
 pub mod Numbered
 pub mod Walked
+pub mod Wanting

@@ -7,15 +7,18 @@ ghost use Rattle.jv_meaning_typing.specs.declared.verdict.Verdict.TheVariants.{V
 ghost use Rattle.jv_meaning_world.specs.FileContent.{FileContent};
 ghost use Rattle.jv_meaning_world.specs.Numbers.{HoldsAtNumber};
 ghost use Rattle.jv_meaning_world.specs.declared.verdict.LoadVerdict.{LoadVerdict};
-ghost use Rattle.jv_program_explain.specs.Frames.{AreFramesShown, ShowsFramesOf, both_text, frames_text, some_text, unmet_text};
+ghost use Rattle.jv_program_explain.specs.Frames.{AreFramesShown, ShowsFramesOf, both_text, frames_text, some_text, unmet_text, want_text};
 ghost use Rattle.jv_program_explain.specs.Inside.Numbered.{IsJudgedAt, StandsAt, is_on_methods};
+ghost use Rattle.jv_operands.specs.Seen.{seen_unmet as seen_want_unmet};
 ghost use Rattle.jv_shown.specs.Instructions.{first_of};
 ghost use Rattle.jv_verify.specs.Before.{seen_frame, seen_unmet};
 
 use crate::unmet::ShownUnmet;
+use crate::wanting::{ShownWant, unmet_want};
 use jv_explain::is_at_instruction;
 use jv_loader::Classes;
 use jv_meaning_typing::{Verdict, VerifyFault, VerifyRule};
+use jv_operands::UnmetWant;
 use jv_shown::ShownFrame;
 use jv_verify::{FramesBefore, NamedFrame, NamedUnmet, frames_before};
 use std::alloc::{AllocError, Global};
@@ -99,6 +102,14 @@ fn first_of<'f, 'a>(
     }
 }
 
+/// The frame before an instruction: that of the stack map, where it has one there, else what falls there.
+fn before_of<'f, 'a>(found: &'f FramesBefore<'a>) -> Option<&'f NamedFrame<'a>>
+    ensures { option_map (λ f. seen_frame f.now) result
+        ≡ first_of (option_map seen_frame found.now.map) (option_map seen_frame found.now.falling) }
+{
+    first_of(found.map.as_ref(), found.falling.as_ref())
+}
+
 /// The text of a frame, and of what goes on, whose frame this is.
 fn onward_told(
     alloc: Global,
@@ -114,14 +125,29 @@ fn onward_told(
     format!(in alloc; "{frame}{unmet}")
 }
 
-/// The text of the frames before an instruction that breaks a rule, and of what goes on from it.
+/// The text of a frame, and of what the instruction wants first that isn't there.
+fn wanting_told(
+    alloc: Global,
+    frame: Option<&NamedFrame<'_>>,
+    want: Option<UnmetWant<&[u8]>>,
+) -> Result<String, AllocError>
+    ensures { IfOk result (λ text. string_bytes text
+        ≡ some_text [] (option_map (λ f. seen_frame f.now) frame.entry) ++ want_text (option_map seen_want_unmet want.entry)) }
+{
+    let frame = ShownSome { whose: "", frame };
+    let want = ShownWant(want);
+    format!(in alloc; "{frame}{want}")
+}
+
+/// The text of the frames before an instruction that breaks a rule, of what goes on from it, and of what it wants first that isn't there.
 fn frames_told(
     alloc: Global,
     rule: VerifyRule,
     found: &FramesBefore<'_>,
+    want: Option<UnmetWant<&[u8]>>,
 ) -> Result<String, AllocError>
     ensures { IfOk result (λ text. string_bytes text ≡ frames_text rule (option_map seen_frame found.now.falling)
-        (option_map seen_frame found.now.map) (option_map seen_unmet found.now.unmet)) }
+        (option_map seen_frame found.now.map) (option_map seen_unmet found.now.unmet) (option_map seen_want_unmet want.entry)) }
 {
     let falling = found.falling.as_ref();
     let map = found.map.as_ref();
@@ -129,6 +155,7 @@ fn frames_told(
     match rule {
         VerifyRule::Merge => both_told(alloc, falling, map),
         VerifyRule::CoveredHandler => onward_told(alloc, first_of(map, falling), "thrown ", unmet),
+        VerifyRule::Instruction => wanting_told(alloc, first_of(map, falling), want),
         VerifyRule::BranchTarget => onward_told(alloc, first_of(map, falling), "left ", unmet),
         _ => both_told(alloc, first_of(map, falling), None),
     }
@@ -150,7 +177,9 @@ fn frames_at(
         return Ok(String::new(alloc));
     }
     let found = frames_before(alloc, state, classes, number, fault.method, fault.offset)?;
-    frames_told(alloc, fault.rule, &found)
+    let before = before_of(&found);
+    let want = unmet_want(alloc, classes, number, fault, before)?;
+    frames_told(alloc, fault.rule, &found, want)
 }
 
 /// The text of the frames that a verdict on the class with a number is about; nothing where it is about no instruction. Names are hashed

@@ -16,6 +16,7 @@ mod settings;
 mod step;
 mod unmet;
 mod walk;
+mod wanting;
 
 pub use explaining::explain_files;
 pub use named::explain_named;

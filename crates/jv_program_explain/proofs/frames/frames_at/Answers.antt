@@ -1,8 +1,10 @@
-use Rattle.std.proofs.Common.{sym, ◌∙◌}
+use Rattle.std.proofs.Common.{sym, ap, ◌∙◌}
 use Rattle.std.specs.Prelude.{string_bytes}
 use Rattle.std.specs.Option.{option_map}
 use Rattle.std.proofs.lemmas.Result.{IfOk-weaker}
+use Rattle.jv_operands.specs.Seen.{seen_unmet as seen_want}
 use Rattle.jv_verify.specs.Before.{seen_frame, seen_unmet}
+use Rattle.jv_program_explain.specs.Frames.{unmet_want_at}
 use Rattle.jv_program_explain.proofs.Faults.{at_none, at_place, typed_in}
 use Rattle.jv_program_explain.proofs.frames.frames_at.Goals as goal
 
@@ -13,6 +15,9 @@ returns-then-not-is_at_instruction c = λ l at.
 pub frames_before-requires-clause-typed : goal.frames_before-requires-clause-typed
 frames_before-requires-clause-typed c = λ l at.
     typed_in c.args.classes.now.world l c.args.fault (sym c.is_at_instruction.ensures ∙ c.if-not-is_at_instruction.false) (c.requires.judged l at)
+
+pub unmet_want-requires-clause-instruction : goal.unmet_want-requires-clause-instruction
+unmet_want-requires-clause-instruction c = sym c.is_at_instruction.ensures ∙ c.if-not-is_at_instruction.false
 
 pub returns : goal.returns
 returns c =
@@ -26,7 +31,21 @@ returns c =
       falling = option_map seen_frame c.in_ok-found.found.falling;
       map = option_map seen_frame c.in_ok-found.found.map;
       unmet = option_map seen_unmet c.in_ok-found.found.unmet;
-      before = b.before;
+      want = option_map seen_want c.in_ok-want.want;
+      before = record {
+        env = b.before.env;
+        world_is = b.before.world_is;
+        site_is = b.before.site_is;
+        code = b.before.code;
+        handlers = b.before.handlers;
+        maps = b.before.maps;
+        frames = b.before.frames;
+        holds = (
+          b.before.holds,
+          ap (unmet_want_at b.before.env c.args.fault.offset) (sym c.before_of-before.ensures)
+              ∙ c.in_ok-want.ensures l at b.method b.at b.before.env b.before.world_is b.before.site_is b.before.code.is,
+        );
+      };
       told = told;
     }))
     c.frames_told.ensures

@@ -1,7 +1,6 @@
-use Rattle.std.proofs.Common.{◌≡◌, List, ℕ, ◌++◌, false, ap, sym, subst, ◌∙◌}
+use Rattle.std.proofs.Common.{◌≡◌, ◌++◌, false, ap, sym, subst, ◌∙◌}
 use Rattle.std.specs.Prelude.{string_bytes}
 use Rattle.jv_meaning_world.specs.FileContent.{FileContent}
-use Rattle.jv_meaning_world.specs.declared.content.Content.TheVariants.{Holds}
 use Rattle.jv_meaning_world.specs.World.{loaded}
 use Rattle.jv_program_explain.specs.Explain.{IsAcceptedTold}
 use Rattle.jv_program_explain.proofs.Faults.{class_of_accepted}
