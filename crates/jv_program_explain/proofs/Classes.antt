@@ -29,6 +29,11 @@ nothing : {X : Type 0} (k : ℕ) (x : X) → slice_get {X = X} [] k ≡ Some x �
 nothing zero x e = cc
 nothing (suc k) x e = cc
 
+pub method_at : (xs : List Method) (k : ℕ) → k < length xs → (m : Method) × (slice_get xs k ≡ Some m)
+method_at [] k less = absurd (omega (arith, less))
+method_at (x ∷ xs) zero less = (x, refl)
+method_at (x ∷ xs) (suc k) less = method_at xs k (omega (arith, less))
+
 module _ (world : World) (l : Loaded) (lines : ℕ → ℕ → Option ℕ) where
   pub none_listed : (text : List ℕ) → text ≡ [] → AreFirstListed world l lines 0 text
   none_listed text e = record { listed = []; count_is = refl; each = λ k m one at is. absurd (nothing k one is); told = e }

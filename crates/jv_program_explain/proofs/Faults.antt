@@ -38,7 +38,7 @@ pub typed_in : (world : World) (l : Loaded) (fault : VerifyFault) → is_at_inst
 typed_in world l fault on first = record {
   method = first.method;
   at = first.at;
-  typed = below world (declared_by l first.method) fault.offset fault.rule on first.breaks;
+  holds = below world (declared_by l first.method) fault.offset fault.rule on first.breaks;
 }
 
 -- ---- what is shown

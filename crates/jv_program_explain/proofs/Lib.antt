@@ -2,6 +2,7 @@ pub mod BelowFaults
 pub mod ByBytes
 pub mod Classes
 pub mod Faults
+pub mod FaultsShown
 pub mod InParts
 pub mod Listed
 pub mod Methods

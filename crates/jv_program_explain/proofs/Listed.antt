@@ -1,123 +1,152 @@
--- The instructions of code, listed one after another.
-use Rattle.std.proofs.Common.{◌≡◌, ℕ, ◌+◌, ◌<◌, ◌≤◌, Bool, true, false, List, Option, [], ◌∷◌, ◌++◌, length, refl, sym, ap, subst, ◌∙◌, inl, inr, append_assoc, append-nil, arith}
-use Rattle.std.proofs.Math.Dec.{ltb}
-use Rattle.std.proofs.lemmas.Bool.{ltb-false, ltb-true}
-use Rattle.jv_code.specs.Insns.{Instruction, insn_bytes}
-use Rattle.jv_code.specs.Places.{IsAt, IsCode, IsStart, IsStartOrEnd, OneAtOffset, StartsApart}
-use Rattle.jv_code.proofs.Sizes.{size, size-cons, size-append, some_bytes}
-use Rattle.jv_meaning_world.specs.World.{World}
+-- The instructions of a method, listed one after another.
+use Rattle.std.proofs.Common.{◌≡◌, ◌≤◌, ℕ, true, List, Option, Some, [], ◌∷◌, ◌++◌, length, map, refl, sym, ap, subst, ◌∙◌, append_assoc, append-nil, arith}
+use Rattle.std.specs.Prelude.{nat_le, slice_get, string_bytes}
+use Rattle.std.specs.List.{FoldsTo, flat_map}
+use Rattle.std.specs.Option.{option_map}
+use Rattle.std.proofs.lemmas.Bool.{leb-true}
+use Rattle.std.proofs.lemmas.Fn.{chained_keeps}
+use Rattle.std.proofs.lemmas.Grind.{flat_map-append}
+use Rattle.std.proofs.lemmas.List.Concat.{flat_map-cons}
+use Rattle.jv_pool.specs.Constants.{Entry}
+use Rattle.jv_class.specs.Class.{Method}
+use Rattle.jv_class_structure.specs.Parts.{CodeSeen}
+use Rattle.jv_code.specs.Insns.{Instruction, insn_bytes, instruction_of}
+use Rattle.jv_code.specs.Places.{IsAt, IsCode, OneAtOffset, StandsInList}
+use Rattle.jv_code.proofs.Sizes.{size, size-cons, size-append}
+use Rattle.jv_explain.specs.Text.{place_text}
+use Rattle.jv_lines.specs.Lines.{line_at}
+use Rattle.jv_stackmap.specs.Frames.{PlacedFrame}
+use Rattle.jv_meaning_world.specs.World.{Loaded, World}
+use Rattle.jv_meaning_world.specs.Verdicts.{declared_by}
 use Rattle.jv_meaning_typing.specs.Uses.{Site}
-use Rattle.jv_program_explain.specs.Listing.{AreListed, IsListed, IsListedTo, Stops}
-use Rattle.jv_program_explain.specs.Inside.Walked.{AreListedBelow}
+use Rattle.jv_meaning_typing.specs.Environment.{Environment, IsEnvironment, offset_behind}
+use Rattle.jv_meaning_typing.specs.Judgement.{WithFrames}
+use Rattle.jv_meaning_typing.proofs.Starts.{instruction_at_is, start_within}
+use Rattle.jv_verify.specs.Before.{AreFramed, FramesStand, seen_frame}
+use Rattle.jv_verify.specs.Frames.{AreFramedIn}
+use Rattle.jv_verify.specs.sink.FramedInsn.{FramedInsn}
+use Rattle.jv_program_explain.specs.Listing.{AreListed, IsListedTo, Stops, before_text}
+use Rattle.jv_program_explain.specs.declared.walk.Listing.{Listing}
+use Rattle.jv_program_explain.specs.Inside.Walked.{TakesFramed, framed_text}
 
-module _ (world : World) (site : Site) (line : ℕ → Option ℕ) where
-  -- one instruction more
-  listed-more : (pc : ℕ) (xs : List Instruction) (x : Instruction) (text one : List ℕ) → AreListed world site line pc xs text → IsListed world site line (pc + size xs) x one
-      → AreListed world site line pc (xs ++ x ∷ []) (text ++ one)
-  listed-more pc [] x text one h is =
-      let none : pc + size [] ≡ pc = omega arith in
-      (one, [], subst (λ (n : ℕ). IsListed world site line n x one) none is, refl, ap (λ (t : List ℕ). t ++ one) h ∙ sym (append-nil one))
-  listed-more pc (y ∷ xs) x text one (first, rest, is_first, others, e) is =
-      let next = pc + length (insn_bytes y) in
-      let sizes = size-cons y xs in
-      let there : pc + size (y ∷ xs) ≡ next + size xs = omega (arith, sizes) in (
-        first,
-        rest ++ one,
-        is_first,
-        listed-more next xs x rest one others (subst (λ (n : ℕ). IsListed world site line n x one) there is),
-        ap (λ (t : List ℕ). t ++ one) e ∙ append_assoc first rest one,
+-- ---- what a list has
+
+abbrev text_in : Listing → FramedInsn → List ℕ
+text_in l f = framed_text l.pool.now (line_at l.lines.now l.method) f
+
+-- all that it took stands at its end
+abbrev HasTaken : Listing → List FramedInsn → Listing → Type 0
+HasTaken old all new = (new ≡ record old { text = new.text }) × (string_bytes new.text ≡ string_bytes old.text ++ flat_map (text_in old) all)
+
+pub all_taken : (old new : Listing) (all : List FramedInsn) → FoldsTo TakesFramed old all new → HasTaken old all new
+all_taken old new all folds = chained_keeps TakesFramed (HasTaken old) one_more all old new (refl, sym (append-nil (string_bytes old.text))) folds
+  where
+    one_more : (xs : List FramedInsn) (q : Listing) (x : FramedInsn) (v : Listing) → HasTaken old xs q → TakesFramed q x v → HasTaken old (xs ++ x ∷ []) v
+    one_more xs q x v (same, text) (changed, appended) = (
+      changed ∙ ap (λ (l : Listing). record l { text = v.text }) same,
+      appended
+          ∙ (ap (λ (l : Listing). string_bytes q.text ++ text_in l x) same
+          ∙ (ap (λ (t : List ℕ). t ++ text_in old x) text
+          ∙ (append_assoc (string_bytes old.text) (flat_map (text_in old) xs) (text_in old x)
+          ∙ ap (λ (t : List ℕ). string_bytes old.text ++ t)
+          (ap (λ (t : List ℕ). flat_map (text_in old) xs ++ t) (sym (append-nil (text_in old x))) ∙ sym (flat_map-append (text_in old) xs (x ∷ [])))))),
+    )
+
+-- ---- the instructions that it took
+
+abbrev insn_of : FramedInsn → Instruction
+insn_of f = instruction_of f.insn
+
+module _ (world : World) (site : Site) (line : ℕ → Option ℕ) (P : Environment → List PlacedFrame → Type 0) (w : WithFrames world site P) where
+  with_these : (Q : Environment → List PlacedFrame → Type 0) → Q w.env w.maps → WithFrames world site Q
+  with_these Q holds = record {
+    env = w.env;
+    world_is = w.world_is;
+    site_is = w.site_is;
+    code = w.code;
+    handlers = w.handlers;
+    maps = w.maps;
+    frames = w.frames;
+    holds = holds;
+  }
+
+  listed_from : (pool : List Entry) → pool ≡ site.by.class.constant_pool → (pc stop : ℕ) (all : List FramedInsn) → AreFramed w.env w.maps pc stop all
+      → AreListed world site line pc (map insn_of all) (flat_map (framed_text pool line) all)
+  listed_from pool e pc stop [] h = refl
+  listed_from pool e pc stop (f ∷ all) (at, starts, stand, more) =
+      let falling = option_map seen_frame f.falling in
+      let there = option_map seen_frame f.map in (
+        framed_text pool line f,
+        flat_map (framed_text pool line) all,
+        record {
+          falling = falling;
+          map = there;
+          before = with_these (λ env maps. FramesStand env maps pc falling there) stand;
+          told =
+              ap (λ (p : List Entry). place_text p f.offset (line f.offset) (insn_of f) ++ before_text falling there) e
+              ∙ ap (λ (n : ℕ). place_text site.by.class.constant_pool n (line n) (insn_of f) ++ before_text falling there) at;
+        },
+        listed_from pool e (offset_behind pc (insn_of f)) stop all more,
+        flat_map-cons (framed_text pool line) f all,
       )
 
-  pub none_listed : (insns : List Instruction) (text : List ℕ) → text ≡ [] → AreListedBelow world site line insns 0 text
-  none_listed insns text e = record { before = []; after = insns; is = refl; place = refl; listed = e }
+-- behind some instructions of the code are these
+record Follow (pre rest : List Instruction) (stop : ℕ) (all : List FramedInsn) : Type 0 where
+  after : List Instruction
+  rest_is : rest ≡ map insn_of all ++ after
+  stop_is : stop ≡ size (pre ++ map insn_of all)
 
-  module _ (insns : List Instruction) (code : List ℕ) (is : IsCode code insns) (offset : ℕ) (text : List ℕ) (below : AreListedBelow world site line insns offset text) where
-    sizes_are : length code ≡ offset + size below.after
-    sizes_are =
-        let both : length code ≡ size below.before + size below.after = ap length is.spelled ∙ (ap size below.is ∙ size-append below.before below.after) in
-        let at = below.place in
-        omega (arith, both, at)
+module _ (stands : StandsInList) (one : OneAtOffset) (env : Environment) (is : IsEnvironment env) (maps : List PlacedFrame) where
+  follow : (pre rest : List Instruction) → IsCode env.code.code (pre ++ rest) → (pc stop : ℕ) (all : List FramedInsn) → pc ≡ size pre → AreFramed env maps pc stop all
+      → Follow pre rest stop all
+  follow pre rest code pc stop [] place h = record { after = rest; rest_is = refl; stop_is = sym h ∙ (place ∙ ap size (sym (append-nil pre))) }
+  follow pre [] code pc stop (f ∷ all) place (at, starts, stand, more) =
+      let within = start_within env pc (insn_of f) is starts in
+      let whole : length env.code.code ≡ size pre = ap length code.spelled ∙ ap size (append-nil pre) in
+      absurd (omega (arith, within, whole, place))
+  follow pre (i ∷ rest) code pc stop (f ∷ all) place (at, starts, stand, more) =
+      let there : IsAt env.code.code pc (insn_of f) = (instruction_at_is stands env pc (insn_of f) is).1 starts in
+      let mine : IsAt env.code.code pc i = record { before = pre; after = rest; code = code; place = place } in
+      let same : i ≡ insn_of f = one env.code.code pc i (insn_of f) mine there in
+      let sizes = size-append pre (i ∷ []) in
+      let last = size-cons i [] in
+      let none : size [] ≡ 0 = refl in
+      let bytes = ap (λ (x : Instruction). length (insn_bytes x)) same in
+      let next : offset_behind pc (insn_of f) ≡ size (pre ++ i ∷ []) = omega (arith, place, sizes, last, none, bytes) in
+      let joined = subst (λ (l : List Instruction). IsCode env.code.code l) (sym (append_assoc pre (i ∷ []) rest)) code in
+      let again = follow (pre ++ i ∷ []) rest joined (offset_behind pc (insn_of f)) stop all next more in
+      record {
+        after = again.after;
+        rest_is = ap (λ (l : List Instruction). i ∷ l) again.rest_is ∙ ap (λ (x : Instruction). x ∷ (map insn_of all ++ again.after)) same;
+        stop_is = again.stop_is ∙ ap size (append_assoc pre (i ∷ []) (map insn_of all) ∙ ap (λ (x : Instruction). pre ++ x ∷ map insn_of all) same);
+      }
 
-    next_listed : (insn : Instruction) (rest : List Instruction) → below.after ≡ insn ∷ rest → (next : ℕ) (one more : List ℕ) → next ≡ offset + length (insn_bytes insn)
-        → IsListed world site line offset insn one → more ≡ text ++ one → AreListedBelow world site line insns next more
-    next_listed insn rest after next one more behind says appended =
-        let at = below.place in
-        let sizes = size-append below.before (insn ∷ []) in
-        let last = size-cons insn [] in
-        let none : size [] ≡ 0 = refl in
-        let here : offset ≡ 0 + size below.before = omega (arith, at) in
-        record {
-          before = below.before ++ insn ∷ [];
-          after = rest;
-          is = below.is ∙ (ap (λ (l : List Instruction). below.before ++ l) after ∙ sym (append_assoc below.before (insn ∷ []) rest));
-          place = omega (arith, at, behind, sizes, last, none);
-          listed =
-              subst (λ (t : List ℕ). AreListed world site line 0 (below.before ++ insn ∷ []) t) (sym appended)
-              (listed-more 0 below.before insn text one below.listed (subst (λ (n : ℕ). IsListed world site line n insn one) here says));
-        }
-
-    -- the instruction at the offset is listed
-    pub more_listed : OneAtOffset → (insn : Instruction) → IsAt code offset insn → offset < length code → (next : ℕ) (one more : List ℕ)
-        → next ≡ offset + length (insn_bytes insn) → IsListed world site line offset insn one → more ≡ text ++ one → AreListedBelow world site line insns next more
-    more_listed law insn at less next one more behind says appended = by_after below.after refl
-      where
-        by_after : (after : List Instruction) → below.after ≡ after → AreListedBelow world site line insns next more
-        by_after [] e =
-            let all : length code ≡ offset + size below.after = sizes_are in
-            let none : size below.after ≡ 0 = ap size e in
-            absurd (omega (arith, all, none, less))
-        by_after (i ∷ rest) e =
-            let stands : IsAt code offset i = record {
-              before = below.before;
-              after = rest;
-              code = subst (λ (l : List Instruction). IsCode code l) (below.is ∙ ap (λ (l : List Instruction). below.before ++ l) e) is;
-              place = below.place;
-            } in
-            let same : i ≡ insn = law code offset i insn stands at in
-            next_listed insn rest (e ∙ ap (λ (j : Instruction). j ∷ rest) same) next one more behind says appended
-
-    -- the list stops at the offset
-    pub listed_to : (end : ℕ) (behind whole : List ℕ) → Stops offset end behind → whole ≡ text ++ behind → IsListedTo world site line code end whole
-    listed_to end behind whole stops appended = record {
-      before = below.before;
-      after = below.after;
-      is = subst (λ (l : List Instruction). IsCode code l) below.is is;
-      listing = text;
-      listed = below.listed;
+pub list_whole : StandsInList → OneAtOffset → (world : World) (l : Loaded) (number stop end : ℕ) (all : List FramedInsn) → AreFramedIn world l number stop all → (m : Method) (body : CodeSeen)
+    → slice_get l.class.methods number ≡ Some m → m.code ≡ Some body → (line : ℕ → Option ℕ) (pool : List Entry) → pool ≡ l.class.constant_pool → (listing behind text : List ℕ)
+    → listing ≡ flat_map (framed_text pool line) all → Stops listing stop end behind → text ≡ listing ++ behind → IsListedTo world (declared_by l m) line body.code end text
+list_whole stands one world l number stop end all framed m body at has line pool pool_is listing behind text e stops told =
+    let both : Some framed.method ≡ Some m = sym framed.at ∙ at in
+    let same : framed.method ≡ m = cc in
+    let Framed : Environment → List PlacedFrame → Type 0 = λ env maps. AreFramed env maps 0 stop all in
+    let w : WithFrames world (declared_by l m) Framed = subst (λ (x : Method). WithFrames world (declared_by l x) Framed) same framed.holds in
+    let here : Some w.env.code ≡ Some body = sym w.code.is.code ∙ (ap (λ (s : Site). s.method.code) w.site_is ∙ has) in
+    let code_is : w.env.code ≡ body = cc in
+    let bytes : w.env.code.code ≡ body.code = ap (λ (b : CodeSeen). b.code) code_is in
+    let rest = follow stands one w.env w.code.is w.maps [] w.env.instructions w.code.is.instructions 0 stop all refl w.holds in
+    record {
+      before = map insn_of all;
+      after = rest.after;
+      is =
+          subst (λ (b : List ℕ). IsCode b (map insn_of all ++ rest.after)) bytes
+          (subst (λ (l : List Instruction). IsCode w.env.code.code l) rest.rest_is w.code.is.instructions);
+      listing = listing;
+      listed =
+          subst (λ (t : List ℕ). AreListed world (declared_by l m) line 0 (map insn_of all) t) (sym e)
+          (listed_from world (declared_by l m) line Framed w pool pool_is 0 stop all w.holds);
       behind = behind;
-      stops = subst (λ (n : ℕ). Stops n end behind) below.place stops;
-      told = appended;
+      stops = subst (λ (n : ℕ). Stops listing n end behind) rest.stop_is stops;
+      told = told;
     }
 
--- the next instruction starts no later than the end
-pub next_within : StartsApart → (code : List ℕ) (offset next end : ℕ) (insn : Instruction) → IsAt code offset insn → IsStartOrEnd code end → offset < end
-    → next ≡ offset + length (insn_bytes insn) → next ≤ length code → next ≤ end
-next_within law code offset next end insn at (inl (other, there)) less behind within =
-    let apart = law code offset end insn other at there (omega (arith, less)) in
-    omega (arith, apart, behind)
-next_within law code offset next end insn at (inr e) less behind within = omega (arith, e, within)
-
--- one starts below the end
-pub starts_below : (code : List ℕ) (offset end : ℕ) → IsStartOrEnd code offset → IsStartOrEnd code end → offset < end → IsStart code offset
-starts_below code offset end (inl start) h less = start
-starts_below code offset end (inr e) (inl (insn, there)) less = absurd (within insn there)
-  where
-    within : (insn : Instruction) → IsAt code end insn → ⊥
-    within insn at =
-        let place = at.place in
-        let all : length code ≡ size (at.before ++ insn ∷ at.after) = ap length at.code.spelled in
-        let parts = size-append at.before (insn ∷ at.after) in
-        let rest = size-cons insn at.after in
-        let some = some_bytes insn in
-        omega (arith, place, all, parts, rest, some, e, less)
-starts_below code offset end (inr e) (inr f) less = absurd (omega (arith, e, f, less))
-
--- a list that doesn't go on below its end has come far
-pub far_enough : (b : Bool) (offset end : ℕ) → ((offset < end) × (offset < 8192) → b ≡ true) → b ≡ false → offset < end → 8192 ≤ offset
-far_enough b offset end sure off less = by_test (ltb offset 8192) refl
-  where
-    by_test : (t : Bool) → ltb offset 8192 ≡ t → 8192 ≤ offset
-    by_test true e =
-        let on : b ≡ true = sure (less, ltb-true offset 8192 e) in
-        absurd cc
-    by_test false e = ltb-false offset 8192 e
+pub is_long : (n : ℕ) → nat_le 1048576 n ≡ true → 1048576 ≤ n
+is_long n e = leb-true 1048576 n e

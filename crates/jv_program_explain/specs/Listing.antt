@@ -17,8 +17,7 @@ use Rattle.jv_meaning_typing.specs.declared.verdict.VerifyRule.TheVariants as ru
 use Rattle.jv_meaning_typing.specs.Judgement.{WithFrames}
 use Rattle.jv_shown.specs.Frames.{frame_text}
 use Rattle.jv_explain.specs.Text.{method_text, place_text}
-use Rattle.jv_verify.specs.Before.{StandBefore}
-use Rattle.jv_verify.specs.Onward.{Unmet}
+use Rattle.jv_verify.specs.Before.{FramesStand}
 
 -- ---- an instruction
 
@@ -32,8 +31,7 @@ before_text None None = []
 pub record IsListed (world : World) (site : Site) (line : ℕ → Option ℕ) (pc : ℕ) (insn : Instruction) (text : List ℕ) : Type 0 where
   pub falling : Option Frame
   pub map : Option Frame
-  pub unmet : Option Unmet
-  pub before : WithFrames world site (λ env maps. StandBefore env maps pc falling map unmet)
+  pub before : WithFrames world site (λ env maps. FramesStand env maps pc falling map)
   pub told : text ≡ place_text site.by.class.constant_pool pc (line pc) insn ++ before_text falling map
 
 -- ---- a method
@@ -48,9 +46,10 @@ AreListed world site line pc (insn ∷ more) text =
 abbrev pub more_text : ℕ → List ℕ
 more_text pc = codes "  from offset " ++ decimal pc ++ codes " on nothing is listed" ++ 10 ∷ []
 
--- where a list stops that is to go up to an offset: there, or earlier, not below offset 8,192, which a line says
-abbrev pub Stops : (stop end : ℕ) → List ℕ → Type 0
-Stops stop end text = ((stop ≡ end) × (text ≡ [])) ⊎ ((8192 ≤ stop) × (stop < end) × (text ≡ more_text stop))
+-- where a list stops that is to go up to an offset: there, or earlier, where it has 1,048,576 bytes at least, which a line says
+abbrev pub Stops : (listing : List ℕ) → (stop end : ℕ) → List ℕ → Type 0
+Stops listing stop end text =
+    ((stop ≡ end) × (text ≡ [])) ⊎ ((1048576 ≤ length listing) × (stop < end) × (text ≡ more_text stop))
 
 -- the instructions of code from the first on, up to an offset
 pub record IsListedTo (world : World) (site : Site) (line : ℕ → Option ℕ) (code : List ℕ) (end : ℕ) (text : List ℕ) : Type 0 where
@@ -60,7 +59,7 @@ pub record IsListedTo (world : World) (site : Site) (line : ℕ → Option ℕ) 
   pub listing : List ℕ
   pub listed : AreListed world site line 0 before listing
   pub behind : List ℕ
-  pub stops : Stops (length (flat_map insn_bytes before)) end behind
+  pub stops : Stops listing (length (flat_map insn_bytes before)) end behind
   pub told : text ≡ listing ++ behind
 
 -- all of a method, by its number, behind its line, where it has code

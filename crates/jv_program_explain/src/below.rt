@@ -13,24 +13,25 @@ ghost use Rattle.jv_program_explain.specs.Inside.Numbered.{IsJudgedAt, StandsAt,
 
 use crate::walk::list_to;
 use jv_class::ClassFile;
-use jv_code::{Code, stands_in_list};
+use jv_code::stands_in_list;
 use jv_explain::is_at_instruction;
 use jv_lines::Lines;
-use jv_link::{Site, class_at};
+use jv_link::class_at;
 use jv_loader::Classes;
 use jv_meaning_typing::{Verdict, VerifyFault};
+use jv_verify::{ConstantTypes, CurrentClass};
 use std::alloc::{AllocError, Global};
 use std::hash::RandomState;
 
 /// The instructions below the one at which a method breaks a rule, of the class with a number, which is that of the file.
-fn below_in(
+fn below_in<'a>(
     alloc: Global,
     state: RandomState,
-    classes: &Classes<'_>,
+    classes: &Classes<'a>,
     class: usize,
-    file: &ClassFile<'_>,
+    file: &ClassFile<'a>,
+    bytes: &[u8],
     fault: VerifyFault,
-    lines: &Lines,
 ) -> Result<String, AllocError>
     requires class { class < length classes.now.world }
     requires guest { HoldsAtNumber classes.now.world class (λ l. l.by_system ≡ false) }
@@ -41,32 +42,10 @@ fn below_in(
         IsFaultListed classes.now.world l fault (string_bytes text))) }
 {
     stands_in_list();
-    file.is_well_formed();
-    let number = usize::from(fault.method);
-    let Some(method) = file.method(number) else {
-        unreachable!();
-    };
-    let Some(body) = method.code() else {
-        unreachable!();
-    };
-    let Ok(code) = Code::read(body.code) else {
-        unreachable!();
-    };
-    let site = Site {
-        class,
-        method: number,
-    };
-    let pool = file.pool();
-    list_to(
-        alloc,
-        state,
-        classes,
-        site,
-        pool,
-        &code,
-        lines,
-        fault.offset,
-    )
+    let lines = Lines::read(alloc, bytes);
+    let constants = ConstantTypes::new(alloc, state, classes.table(), file.pool())?;
+    let current = CurrentClass::new(alloc, classes, class, file, &constants)?;
+    list_to(alloc, &current, file, &lines, fault.method, fault.offset)
 }
 
 /// The instructions below the one at which a method breaks a rule, of the class with a number; nothing where it is broken by the whole
@@ -88,12 +67,8 @@ fn below_at(
     if !is_at_instruction(fault.rule) {
         return Ok(String::new(alloc));
     }
-    let loaded = class_at(classes.table(), class);
-    match loaded.file() {
-        Some(file) => {
-            let lines = Lines::read(alloc, bytes);
-            below_in(alloc, state, classes, class, file, fault, &lines)
-        }
+    match class_at(classes.table(), class).file() {
+        Some(file) => below_in(alloc, state, classes, class, file, bytes, fault),
         None => Ok(String::new(alloc)),
     }
 }

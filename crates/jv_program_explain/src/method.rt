@@ -1,24 +1,21 @@
 //! A method, listed.
 
-ghost use Rattle.std.specs.Prelude.{◌≡◌, ◌++◌, IfOk, Some, string_bytes};
-ghost use Rattle.jv_class.specs.Class.{class_of};
+ghost use Rattle.std.specs.Prelude.{◌≡◌, ◌++◌, IfOk, Some, slice_get, string_bytes};
+ghost use Rattle.jv_class.specs.Class.{Method, class_of};
 ghost use Rattle.jv_explain.specs.Inside.Said.{named_text};
 ghost use Rattle.jv_lines.specs.Lines.{line_at};
-ghost use Rattle.jv_link.specs.Answers.{HoldsAtSite};
-ghost use Rattle.jv_meaning_world.specs.Numbers.{HoldsAtNumber};
+ghost use Rattle.jv_meaning_typing.specs.Judgement.{AreTyped};
+ghost use Rattle.jv_meaning_world.specs.Verdicts.{declared_by};
 ghost use Rattle.jv_program_explain.specs.Listing.{IsCodeListed};
-ghost use Rattle.jv_program_explain.specs.Inside.Walked.{IsGuestSite, IsTypedSite};
 
 use crate::walk::list_to;
 use jv_class::ClassFile;
 use jv_code::Code;
 use jv_explain::ShownMethod;
 use jv_lines::Lines;
-use jv_link::Site;
-use jv_loader::Classes;
+use jv_verify::CurrentClass;
 use std::alloc::{AllocError, Global};
 use std::fmt;
-use std::hash::RandomState;
 
 /// The line of a method, and its listing, as they are printed.
 #[derive(Clone, Copy)]
@@ -46,23 +43,21 @@ fn headed(alloc: Global, method: ShownMethod<'_>, listing: &str) -> Result<Strin
     shown.to_string(alloc)
 }
 
-/// The listing of a site's method, where it has code, behind its line. The file is that of the site's class. Names are hashed with the
-/// state.
-pub(crate) fn method_listed(
+/// The listing of a method, by its number, of the current class, which is that of the file and whose methods are typed, behind its line,
+/// where it has code.
+pub(crate) fn method_listed<'a>(
     alloc: Global,
-    state: RandomState,
-    classes: &Classes<'_>,
-    file: &ClassFile<'_>,
-    site: Site,
+    class: &CurrentClass<'_, '_, 'a>,
+    file: &ClassFile<'a>,
     lines: &Lines,
+    number: u16,
 ) -> Result<String, AllocError>
-    requires site { IsGuestSite classes.now.world site }
-    requires file { HoldsAtNumber classes.now.world site.class (λ l. class_of file.now ≡ Some l.class) }
-    requires typed { HoldsAtSite classes.now.world site (IsTypedSite classes.now.world) }
-    ensures { IfOk result (λ text. HoldsAtSite classes.now.world site (λ s.
-        IsCodeListed classes.now.world s (line_at lines.now site.method) site.method s.method.code (string_bytes text))) }
+    requires file { class_of file.now ≡ Some class.now.by.class }
+    requires typed { AreTyped class.now.types.world class.now.by class.now.by.class.methods }
+    ensures { IfOk result (λ text. (m : Method) → slice_get class.now.by.class.methods number ≡ Some m
+        → IsCodeListed class.now.types.world (declared_by class.now.by m) (line_at lines.now number) number m.code (string_bytes text)) }
 {
-    let Some(method) = file.method(site.method) else {
+    let Some(method) = file.method(usize::from(number)) else {
         return Ok(String::new(alloc));
     };
     let Some(body) = method.code() else {
@@ -71,11 +66,11 @@ pub(crate) fn method_listed(
     let Ok(code) = Code::read(body.code) else {
         return Ok(String::new(alloc));
     };
-    let pool = file.pool();
     let size = code.size();
-    let listing = list_to(alloc, state, classes, site, pool, &code, lines, size)?;
+    let listing = list_to(alloc, class, file, lines, number, size)?;
+    let pool = file.pool();
     let shown = ShownMethod {
-        number: site.method as u16,
+        number,
         name: pool.utf8(method.name),
         descriptor: pool.utf8(method.descriptor),
     };

@@ -169,7 +169,7 @@ pub none_left : {A : Type 0} (o : Option A) → ((a : A) → o ≡ Some a → �
 none_left None h = refl
 none_left (Some a) h = absurd (h a refl)
 
-of_structure : (c : ClassStructure) (class : Class) → class_of c ≡ Some class → (c.constant_pool ≡ class.constant_pool) × (all_found (method_of c.constant_pool) c.methods ≡ Some class.methods)
+pub of_structure : (c : ClassStructure) (class : Class) → class_of c ≡ Some class → (c.constant_pool ≡ class.constant_pool) × (all_found (method_of c.constant_pool) c.methods ≡ Some class.methods)
 of_structure c class e =
     let name = chained (class_name c) _ class e in
     let above = chained (super_of c) _ class name.2 in

@@ -6,3 +6,4 @@ pub mod Methods
 pub use Rattle.jv_verify_pass.specs.Before
 pub use Rattle.jv_verify_pass.specs.Onward
 pub use Rattle.jv_verify_pass.specs.declared.difference
+pub use Rattle.jv_verify_pass.specs.declared.sink

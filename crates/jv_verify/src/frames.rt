@@ -1,16 +1,18 @@
-//! The frames before an instruction of a method.
+//! The frames before the instructions of a method.
 
-ghost use Rattle.std.specs.Prelude.{◌≡◌, ◌<◌, false, length, IfOk};
+ghost use Rattle.std.specs.Prelude.{◌≡◌, ◌<◌, ◌≤◌, Some, false, length, IfOk, IsTrue};
+ghost use Rattle.jv_class.specs.Class.{class_of};
 ghost use Rattle.jv_class_structure.specs.Parts.{methods_of};
 ghost use Rattle.jv_meaning_world.specs.Numbers.{HoldsAtNumber};
-ghost use Rattle.jv_verify.specs.Frames.{AreBeforeIn, IsTypedIn};
+ghost use Rattle.jv_verify_pass.specs.Before.{TookAll};
+ghost use Rattle.jv_verify.specs.Frames.{AreBeforeIn, AreFramedIn, IsTypedBelowIn, IsTypedIn};
 ghost use Rattle.jv_verify.specs.Inside.Shown.{AreMethodsOf};
 
-use crate::check::frames_in_method;
+use crate::check::{frames_in_method, tell_in_method};
 use jv_class::ClassFile;
 use jv_link::class_at;
 use jv_loader::Classes;
-use jv_verify_pass::FramesBefore;
+use jv_verify_pass::{FrameSink, FramesBefore};
 use jv_verify_types::{ConstantTypes, CurrentClass};
 use std::alloc::{AllocError, Global};
 use std::hash::RandomState;
@@ -63,4 +65,36 @@ pub fn frames_before<'a>(
     let constants = ConstantTypes::new(alloc, state, classes.table(), file.pool())?;
     let current = CurrentClass::new(alloc, classes, class, file, &constants)?;
     frames_in_class(alloc, &current, file, method, offset)
+}
+
+/// Tells a sink of the instructions of a method, by its number, of the current class, which is that of the file, from the first on up to
+/// an end, each with the frames before it (JVMS 4.10.1.6), as long as it wants more; and answers the offset behind the last of which it
+/// was told, in bytes. An instruction starts at the end, or the code ends there, and those below it are type safe. It costs what it does
+/// to check these once, and what the sink does.
+///
+/// # Errors
+///
+/// Where the host had no memory for the frames, or for what is known of them, or the sink says so.
+pub fn tell_frames<'a, S: FrameSink<'a>>(
+    alloc: Global,
+    class: &CurrentClass<'_, '_, 'a>,
+    file: &ClassFile<'a>,
+    number: u16,
+    end: u32,
+    sink: &mut S,
+) -> Result<u32, AllocError>
+    requires file { class_of file.now ≡ Some class.now.by.class }
+    requires typed { IsTypedBelowIn class.now.types.world class.now.by number end }
+    ensures took { IfOk result (λ stop. TookAll S.takes sink.old sink.new
+        (AreFramedIn class.now.types.world class.now.by number stop)) }
+    ensures within { IfOk result (λ stop. stop ≤ end) }
+    ensures full { IfOk result (λ stop. stop < end → IsTrue (S.full sink.new)) }
+{
+    let Some(method) = file.method(usize::from(number)) else {
+        unreachable!();
+    };
+    let Some(body) = method.code() else {
+        unreachable!();
+    };
+    tell_in_method(alloc, class, &method, &body, end, sink)
 }

@@ -14,7 +14,10 @@ mod tables;
 mod verified;
 
 pub use class::check_class;
-pub use frames::frames_before;
+pub use frames::{frames_before, tell_frames};
 pub use jv_meaning_typing::{Verdict, VerifyFault, VerifyRule};
-pub use jv_verify_pass::{Difference, FramesBefore, NamedFrame, NamedType, NamedUnmet};
+pub use jv_verify_pass::{
+    Difference, FrameSink, FramedInsn, FramesBefore, NamedFrame, NamedType, NamedUnmet,
+};
+pub use jv_verify_types::{ConstantTypes, CurrentClass};
 pub use verified::{Verified, verify, verify_files};

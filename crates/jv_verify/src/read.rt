@@ -1,13 +1,14 @@
 //! A method whose code was read.
 
-ghost use Rattle.std.specs.Prelude.{◌≡◌, ◌↔◌, ◌≤◌, ℕ, List, IsTrue, IfOk, IfSome};
+ghost use Rattle.std.specs.Prelude.{◌≡◌, ◌↔◌, ◌<◌, ◌≤◌, ℕ, List, IsTrue, IfOk, IfSome};
 ghost use Rattle.jv_class_structure.specs.Seen.{seen_code};
 ghost use Rattle.jv_stackmap.specs.Types.{words};
 ghost use Rattle.jv_meaning_typing.specs.Environment.{Environment};
 ghost use Rattle.jv_meaning_typing.specs.Typing.{HandlersKeepRules};
 ghost use Rattle.jv_verify_types.specs.Typed.{typed_all};
 ghost use Rattle.jv_verify_rules.specs.Method.{IsOfMethod};
-ghost use Rattle.jv_verify.specs.Inside.Typed.{IsSomeTyped, StandInEach};
+ghost use Rattle.jv_verify_pass.specs.Before.{TookAll};
+ghost use Rattle.jv_verify.specs.Inside.Typed.{AreFramedInEach, IsSomeTyped, IsSomeTypedBelow, StandInEach};
 ghost use Rattle.jv_verify.specs.Inside.Read.{IsOfRead, HasReadFrames, HaveRoom, types_of, IsMapRead, IsVerdictBehindFrames};
 
 use jv_class_structure::MethodCode;
@@ -15,7 +16,8 @@ use jv_code::{Code, Starts};
 use jv_stackmap::{Limits, MapFrames, one_maps};
 use jv_text::FieldTypeOf;
 use jv_verify_pass::{
-    CodeFault, FrameRoom, FramesBefore, Pass, check_code, frames_before, handlers_hold, read_map,
+    CodeFault, FrameRoom, FrameSink, FramesBefore, Pass, check_code, frames_before, handlers_hold,
+    read_map, tell_frames,
 };
 use jv_verify_rules::MethodContext;
 use jv_verify_types::{CurrentClass, EntryTypes, Item};
@@ -222,5 +224,38 @@ impl<'m, 'e, 't, 'a> ReadMethod<'m, 'e, 't, 'a> {
             frames,
         );
         frames_before(alloc, &pass, offset)
+    }
+
+    /// Tells a sink of its instructions from the first on up to an end, each with the frames before it, where the frames are those of the
+    /// stack map.
+    pub(crate) fn tell_frames<S: FrameSink<'a>>(
+        &self,
+        alloc: Global,
+        starts: &Starts<'a>,
+        frames: &MapFrames,
+        end: u32,
+        sink: &mut S,
+    ) -> Result<u32, AllocError>
+        requires starts { starts.now ≡ self.now.body.code }
+        requires room { HaveRoom self.now frames.now }
+        requires some { IsSomeTypedBelow (HasReadFrames self.now frames.now) end }
+        ensures took { IfOk result (λ stop. TookAll S.takes sink.old sink.new
+            (AreFramedInEach (HasReadFrames self.now frames.now) self.now.class.types.world end stop)) }
+        ensures within { IfOk result (λ stop. stop ≤ end) }
+        ensures full { IfOk result (λ stop. stop < end → IsTrue (S.full sink.new)) }
+    {
+        one_maps();
+        let context = self.context(starts);
+        let types = self.entry_types();
+        let pass = Pass::new(
+            &context,
+            &types,
+            self.initial,
+            self.count,
+            self.body.max_locals,
+            self.body.exception_table,
+            frames,
+        );
+        tell_frames(alloc, &pass, end, sink)
     }
 }

@@ -1,16 +1,17 @@
 //! A method whose code was read, by its tables and then by its instructions.
 
-ghost use Rattle.std.specs.Prelude.{◌≡◌, IfOk};
+ghost use Rattle.std.specs.Prelude.{◌≡◌, ◌<◌, ◌≤◌, IfOk, IsTrue};
 ghost use Rattle.jv_meaning_typing.specs.Environment.{Environment};
 ghost use Rattle.jv_meaning_typing.specs.Typing.{HandlersKeepRules};
+ghost use Rattle.jv_verify_pass.specs.Before.{TookAll};
 ghost use Rattle.jv_verify.specs.Judged.{IsVerdictOnMethod};
-ghost use Rattle.jv_verify.specs.Inside.Typed.{IsSomeTyped, StandInEach};
+ghost use Rattle.jv_verify.specs.Inside.Typed.{AreFramedInEach, IsSomeTyped, IsSomeTypedBelow, StandInEach};
 ghost use Rattle.jv_verify.specs.Inside.Read.{IsOfRead, IsVerdictBehindHandlers};
 
 use crate::read::ReadMethod;
 use jv_code::Starts;
 use jv_meaning_typing::VerifyRule;
-use jv_verify_pass::{CodeFault, FrameRoom, FramesBefore};
+use jv_verify_pass::{CodeFault, FrameRoom, FrameSink, FramesBefore};
 use std::alloc::{AllocError, Global};
 
 /// A rule on the whole code is broken, which is at offset 0.
@@ -69,4 +70,24 @@ pub(crate) fn frames_in_tables<'a>(
         unreachable!();
     };
     method.frames_before(alloc, &starts, &frames, offset)
+}
+
+/// Tells a sink of the instructions of a method whose code was read from the first on up to an end, each with the frames before it.
+pub(crate) fn tell_in_tables<'a, S: FrameSink<'a>>(
+    alloc: Global,
+    method: &ReadMethod<'_, '_, '_, 'a>,
+    end: u32,
+    sink: &mut S,
+) -> Result<u32, AllocError>
+    requires { IsSomeTypedBelow (IsOfRead method.now) end }
+    ensures took { IfOk result (λ stop. TookAll S.takes sink.old sink.new
+        (AreFramedInEach (IsOfRead method.now) method.now.class.types.world end stop)) }
+    ensures within { IfOk result (λ stop. stop ≤ end) }
+    ensures full { IfOk result (λ stop. stop < end → IsTrue (S.full sink.new)) }
+{
+    let starts = method.starts(alloc)?;
+    let Some(frames) = method.map_frames(alloc, &starts)? else {
+        unreachable!();
+    };
+    method.tell_frames(alloc, &starts, &frames, end, sink)
 }

@@ -24,6 +24,7 @@ pub mod Seeing
 pub mod Settings
 pub mod Settling
 pub mod Shared
+pub mod SinkTold
 pub mod Switching
 pub mod Tests
 pub mod Unbroken

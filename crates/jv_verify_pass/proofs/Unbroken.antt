@@ -76,10 +76,12 @@ pub standing : (env : Environment) (maps : List PlacedFrame) (pc : ℕ) (left : 
 standing env maps pc left w falls falling map found insn reach h f m at u =
     let p : Progress env maps pc (when_falls falls left) = subst (λ (x : Walked). IsWalked env maps pc left x) reach h in
     record {
-      frames = p.reaches.frames;
-      below = p.reaches.below;
-      falls = subst (Falls env p.reaches.frames pc) (sym f) p.reaches.falls;
-      at = sym m;
+      stand = record {
+        frames = p.reaches.frames;
+        below = p.reaches.below;
+        falls = subst (Falls env p.reaches.frames pc) (sym f) p.reaches.falls;
+        at = sym m;
+      };
       insn = insn;
       starts = at;
       onward =

@@ -7,6 +7,7 @@ pub mod Parts
 pub mod Seen
 pub mod Settled
 pub mod Stacks
+pub mod Taken
 pub mod Unlike
 pub mod Unmet
 pub mod Walk

@@ -43,7 +43,7 @@ impl Drop for FramesBefore<'_> {
 }
 
 /// A frame with names for numbers, where it falls.
-fn falling_named<'a>(
+pub(crate) fn falling_named<'a>(
     alloc: Global,
     pass: &Pass<'_, '_, '_, '_, 'a>,
     frame: &TypeFrame,
@@ -78,7 +78,7 @@ pub(crate) fn map_frame(
 }
 
 /// The frame of the stack map at an offset, with names for numbers, where there is one.
-fn map_named<'a>(
+pub(crate) fn map_named<'a>(
     alloc: Global,
     pass: &Pass<'_, '_, '_, '_, 'a>,
     offset: u32,

@@ -1,13 +1,13 @@
 //! The pass over a method's code.
 
-ghost use Rattle.std.specs.Prelude.{◌≡◌, ◌≤◌, IfOk, length};
+ghost use Rattle.std.specs.Prelude.{◌≡◌, ◌≤◌, IfOk, OnOk, Some, length};
 ghost use Rattle.jv_code.specs.Places.{IsStartOrEnd};
 ghost use Rattle.jv_meaning_typing.specs.Environment.{Environment};
 ghost use Rattle.jv_verify_types.specs.Numbered.{frame_of};
-ghost use Rattle.jv_verify_pass.specs.Pass.{IsOfPass, maps_of, names_in};
+ghost use Rattle.jv_verify_pass.specs.Pass.{InPass, IsOfPass, maps_of, names_in};
 ghost use Rattle.jv_verify_pass.specs.Found.{IsFound};
 ghost use Rattle.jv_verify_pass.specs.Inside.Seen.{IsSeen};
-ghost use Rattle.jv_verify_pass.specs.Inside.Walk.{HasLocals, IsWalked, IsWalkedFrom};
+ghost use Rattle.jv_verify_pass.specs.Inside.Walk.{HasLocals, IsWalked, IsWalkedFrom, Reaches};
 
 use crate::fault::CodeFault;
 use crate::pass::Pass;
@@ -66,6 +66,24 @@ fn walk(
     Ok(Walked::Reached(falls))
 }
 
+/// Makes a frame the one before the first instruction of a method, and answers what is known beside it.
+pub(crate) fn begin(
+    alloc: Global,
+    frame: &mut TypeFrame,
+    pass: &Pass<'_, '_, '_, '_, '_>,
+) -> Result<Seen, AllocError>
+    ensures seen { IfOk result (λ seen. IsSeen pass.now seen 0 frame.new) }
+    ensures begun { OnOk result (InPass pass.now (λ env.
+        Reaches env (maps_of pass.now) 0 (Some (frame_of (names_in pass.now) frame.new)))) }
+{
+    stands_in_list();
+    starts_apart();
+    frame.renew(pass.max_locals)?;
+    set_to_initial(frame, pass.initial, pass.words);
+    let seen = Seen::new(alloc, pass)?;
+    Ok(seen)
+}
+
 /// Goes over the instructions of a method up to an offset, in a frame that is made anew.
 pub(crate) fn walk_to(
     alloc: Global,
@@ -80,11 +98,7 @@ pub(crate) fn walk_to(
         → IfOk result (IsWalked env (maps_of pass.now) end (frame_of (names_in pass.now) frame.new)) }
     ensures locals { IfOk result (HasLocals pass.now.max_locals frame.new) }
 {
-    stands_in_list();
-    starts_apart();
-    frame.renew(pass.max_locals)?;
-    set_to_initial(frame, pass.initial, pass.words);
-    let mut seen = Seen::new(alloc, pass)?;
+    let mut seen = begin(alloc, frame, pass)?;
     walk(alloc, pass, &mut seen, frame, end)
 }
 

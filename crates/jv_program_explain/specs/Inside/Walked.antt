@@ -1,43 +1,32 @@
--- The code of a site, listed so far.
-use Rattle.std.specs.Prelude.{◌≡◌, ◌<◌, ℕ, false, List, ◌++◌, length, Option, Some, IsSome, slice_get}
+-- The code of a method, listed so far.
+use Rattle.std.specs.Prelude.{◌≡◌, ℕ, List, ◌++◌, length, Option, Some, IsSome, slice_get, string_bytes}
 use Rattle.std.specs.List.{flat_map}
+use Rattle.std.specs.Option.{option_map}
 use Rattle.jv_pool.specs.Constants.{Entry}
 use Rattle.jv_class.specs.Class.{Method}
-use Rattle.jv_code.specs.Insns.{Instruction, insn_bytes}
+use Rattle.jv_code.specs.Insns.{instruction_of}
+use Rattle.jv_explain.specs.Text.{place_text}
+use Rattle.jv_lines.specs.Lines.{line_at}
 use Rattle.jv_meaning_world.specs.World.{Loaded, World}
-use Rattle.jv_meaning_world.specs.Numbers.{HoldsAtNumber}
-use Rattle.jv_meaning_typing.specs.Uses.{Site}
-use Rattle.jv_meaning_typing.specs.Judgement.{WithFrames}
-use Rattle.jv_meaning_typing.specs.Typing.{Assignment, HasTyping, IsTypingBelow}
-use Rattle.jv_link.specs.declared.site.Site.{Site as SiteByNumber}
-use Rattle.jv_link.specs.Answers.{HoldsAtSite}
-use Rattle.jv_link.specs.Seen.{IsSite}
 use Rattle.jv_meaning_world.specs.Verdicts.{declared_by}
-use Rattle.jv_program_explain.specs.Listing.{AreListed, IsCodeListed}
+use Rattle.jv_meaning_typing.specs.Uses.{Site}
+use Rattle.jv_meaning_typing.specs.Typing.{HasTyping}
+use Rattle.jv_verify.specs.Before.{seen_frame}
+use Rattle.jv_verify.specs.sink.FramedInsn.{FramedInsn}
+use Rattle.jv_program_explain.specs.Listing.{IsCodeListed, before_text}
+use Rattle.jv_program_explain.specs.declared.walk.Listing.{Listing}
 
--- a method of a class of the guest's
-pub record IsGuestSite (world : World) (site : SiteByNumber) : Type 0 where
-  pub stands : IsSite world site
-  pub few : site.method < 65536
-  pub guest : HoldsAtNumber world site.class (λ l. l.by_system ≡ false)
+-- an instruction with the frames before it, of a class with these constants
+abbrev pub framed_text : List Entry → (line : ℕ → Option ℕ) → FramedInsn → List ℕ
+framed_text pool line f =
+    place_text pool f.offset (line f.offset) (instruction_of f.insn)
+    ++ before_text (option_map seen_frame f.falling) (option_map seen_frame f.map)
 
--- the constants are those of its class
-abbrev pub IsPoolOf : World → SiteByNumber → List Entry → Type 0
-IsPoolOf world site pool = HoldsAtSite world site (λ s. pool ≡ s.by.class.constant_pool)
-
--- its code has these bytes, and the instructions below an offset are type safe
-abbrev pub IsTypedBelow : World → Site → (code : List ℕ) → ℕ → Type 0
-IsTypedBelow world site code end =
-    WithFrames world site (λ env maps. (env.code.code ≡ code) × ((frames : Assignment) × IsTypingBelow env maps end frames))
-
--- the instructions before an offset are listed
-pub record AreListedBelow (world : World) (site : Site) (line : ℕ → Option ℕ) (insns : List Instruction) (offset : ℕ) (text : List ℕ)
-    : Type 0 where
-  pub before : List Instruction
-  pub after : List Instruction
-  pub is : insns ≡ before ++ after
-  pub place : offset ≡ length (flat_map insn_bytes before)
-  pub listed : AreListed world site line 0 before text
+-- it is what a list has more
+abbrev pub TakesFramed : Listing → FramedInsn → Listing → Type 0
+TakesFramed old f new =
+    (new ≡ record old { text = new.text })
+    × (string_bytes new.text ≡ string_bytes old.text ++ framed_text old.pool.now (line_at old.lines.now old.method) f)
 
 -- a method that has code has a typing
 abbrev pub IsTypedSite : World → Site → Type 0

@@ -33,17 +33,17 @@ returns c =
       unmet = option_map seen_unmet c.in_ok-found.found.unmet;
       want = option_map seen_want c.in_ok-want.want;
       before = record {
-        env = b.before.env;
-        world_is = b.before.world_is;
-        site_is = b.before.site_is;
-        code = b.before.code;
-        handlers = b.before.handlers;
-        maps = b.before.maps;
-        frames = b.before.frames;
+        env = b.holds.env;
+        world_is = b.holds.world_is;
+        site_is = b.holds.site_is;
+        code = b.holds.code;
+        handlers = b.holds.handlers;
+        maps = b.holds.maps;
+        frames = b.holds.frames;
         holds = (
-          b.before.holds,
-          ap (unmet_want_at b.before.env c.args.fault.offset) (sym c.before_of-before.ensures)
-              ∙ c.in_ok-want.ensures l at b.method b.at b.before.env b.before.world_is b.before.site_is b.before.code.is,
+          b.holds.holds,
+          ap (unmet_want_at b.holds.env c.args.fault.offset) (sym c.before_of-before.ensures)
+              ∙ c.in_ok-want.ensures l at b.method b.at b.holds.env b.holds.world_is b.holds.site_is b.holds.code.is,
         );
       };
       told = told;

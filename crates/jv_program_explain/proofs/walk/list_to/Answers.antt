@@ -1,67 +1,32 @@
-use Rattle.std.proofs.Common.{◌≡◌, ◌<◌, ◌≤◌, ◌++◌, length, ap, ◌∙◌, inl, arith}
+use Rattle.std.proofs.Common.{◌≡◌, ◌≤◌, ℕ, List, ◌++◌, length, sym, ap, subst, ◌∙◌}
 use Rattle.std.specs.Prelude.{string_bytes}
-use Rattle.jv_code.specs.Insns.{instruction_of}
-use Rattle.jv_code.proofs.Sizes.{some_bytes}
+use Rattle.std.specs.List.{flat_map}
 use Rattle.jv_lines.specs.Lines.{line_at}
-use Rattle.jv_links.proofs.Answered.{site_there}
 use Rattle.jv_meaning_world.specs.Verdicts.{declared_by}
-use Rattle.jv_program_explain.proofs.Listed.{far_enough, listed_to, more_listed, next_within, none_listed, starts_below}
-use Rattle.jv_program_explain.proofs.Typed.{typed_in}
+use Rattle.jv_verify.proofs.Shown.{of_structure}
+use Rattle.jv_program_explain.specs.Listing.{IsListedTo, Stops}
+use Rattle.jv_program_explain.specs.Inside.Walked.{framed_text}
+use Rattle.jv_program_explain.proofs.Listed.{all_taken, is_long, list_whole}
 use Rattle.jv_program_explain.proofs.walk.list_to.Goals as goal
 
-pub instructions-init : goal.instructions-init
-instructions-init c = record {
-  starts = inl c.size-size.ensures.first;
-  within = omega arith;
-  listed = λ s at insns is. none_listed c.args.classes.now.world s (line_at c.args.lines.now c.args.site.method) insns (string_bytes c.new-text.result) c.new-text.ensures.bytes;
-}
-
-pub insn_at-next-requires : goal.insn_at-next-requires
-insn_at-next-requires c = starts_below c.args.code.now.bytes.now c.instructions.offset c.args.end c.instructions.invariant.starts c.requires.end (c.goes_on.ensures.0 c.instructions-test.true).0
-
-pub step_of-requires-clause-typed : goal.step_of-requires-clause-typed
-step_of-requires-clause-typed c = λ l at.
-    let world = c.args.classes.now.world in
-    let site = c.args.site in
-    let less = (c.goes_on.ensures.0 c.instructions-test.true).0 in
-    let start = starts_below c.args.code.now.bytes.now c.instructions.offset c.args.end c.instructions.invariant.starts c.requires.end less in
-    let found = site_there world site c.requires.site.stands l at in
-    typed_in c.stands_in_list.ensures world l found.0 site.method found.1 c.args.code.now.bytes.now c.args.end c.instructions.offset
-    (c.requires.typed (declared_by l found.0) found.2) (omega (arith, less)) start
-
-pub instructions-preserved : goal.instructions-preserved
-instructions-preserved c =
-    let world = c.args.classes.now.world in
-    let code = c.args.code.now.bytes.now in
-    let offset = c.instructions.offset in
-    let insn = instruction_of c.insn_at-next.result.0 in
-    let next = c.insn_at-next.result.1 in
-    let at = c.insn_at-next.ensures.insn in
-    let less = (c.goes_on.ensures.0 c.instructions-test.true).0 in
-    let to : next ≤ c.args.end = next_within c.starts_apart.ensures code offset next c.args.end insn at c.requires.end less c.insn_at-next.ensures.next c.insn_at-next.ensures.within in
-    record {
-      starts = c.insn_at-next.ensures.goes_on;
-      within = to;
-      listed = λ s seen insns is.
-          let whole : next ≤ length code = c.insn_at-next.ensures.within in
-          let behind = c.insn_at-next.ensures.next in
-          let some = some_bytes insn in
-          let within : offset < length code = omega (arith, whole, behind, some) in
-          let appended : string_bytes c.append.new.text ≡ string_bytes c.instructions.text ++ string_bytes c.in_ok-step.step =
-          c.in_ok-append.ensures ∙ ap (λ t. string_bytes c.instructions.text ++ t) c.deref.ensures in
-          more_listed world s (line_at c.args.lines.now c.args.site.method) insns code is offset (string_bytes c.instructions.text) (c.instructions.invariant.listed s seen insns is)
-          c.one_at_offset.ensures insn at within next (string_bytes c.in_ok-step.step) (string_bytes c.append.new.text) behind (c.in_ok-step.ensures s seen) appended;
-    }
-
-pub stop_told-requires-clause-far : goal.stop_told-requires-clause-far
-stop_told-requires-clause-far c = λ less. far_enough c.goes_on.result c.instructions.offset c.args.end c.goes_on.ensures.1 c.instructions-test.false less
+pub stop_told-requires-clause-long : goal.stop_told-requires-clause-long
+stop_told-requires-clause-long c = λ less.
+    subst (λ (t : List ℕ). 1048576 ≤ length t) (sym (c.deref.ensures ∙ ap string_bytes c.into_text-text.ensures)) (is_long _ (c.in_ok-stop.ensures.full less))
 
 pub returns : goal.returns
-returns c = λ s seen.
-    let world = c.args.classes.now.world in
-    let code = c.args.code.now.bytes.now in
-    let (insns, is) = c.size-size.ensures.is_code in
-    let appended : string_bytes c.append-2.new.text ≡ string_bytes c.instructions.text ++ string_bytes c.in_ok-behind.behind =
-    c.in_ok-append-2.ensures ∙ ap (λ t. string_bytes c.instructions.text ++ t) c.deref-2.ensures in
-    listed_to world s (line_at c.args.lines.now c.args.site.method) insns code is c.instructions.offset (string_bytes c.instructions.text) (c.instructions.invariant.listed s seen insns is)
-    c.args.end (string_bytes c.in_ok-behind.behind) (string_bytes c.append-2.new.text) c.in_ok-behind.ensures appended
+returns c = λ m body at has.
+    let class = c.args.class.now in
+    let pool = c.pool.result.now in
+    let line = line_at c.args.lines.now c.from.result in
+    let (all, folds, framed) = c.in_ok-stop.ensures.took in
+    let text = string_bytes c.into_text-text.result in
+    let behind = string_bytes c.in_ok-behind.behind in
+    let (same, taken) = all_taken _ c.tell_frames.new.sink all folds in
+    let listing : text ≡ flat_map (framed_text pool line) all =
+    ap string_bytes c.into_text-text.ensures ∙ (taken ∙ ap (λ (t : List ℕ). t ++ flat_map (framed_text pool line) all) c.new.ensures.bytes) in
+    let pool_is = c.pool.ensures ∙ (of_structure c.args.file.now class.by.class c.requires.file).0 in
+    let stops = subst (λ (t : List ℕ). Stops t c.in_ok-stop.stop c.args.end behind) c.deref.ensures c.in_ok-behind.ensures in
+    let appended : string_bytes c.append.new.text ≡ text ++ behind = c.in_ok-append.ensures ∙ ap (λ t. text ++ t) c.deref-2.ensures in
+    subst (λ (n : ℕ). IsListedTo class.types.world (declared_by class.by m) (line_at c.args.lines.now n) body.code c.args.end (string_bytes c.append.new.text)) c.from.ensures
+    (list_whole c.stands_in_list.ensures c.one_at_offset.ensures class.types.world class.by c.args.method c.in_ok-stop.stop c.args.end all framed m body at has line pool pool_is text behind
+    (string_bytes c.append.new.text) listing stops appended)

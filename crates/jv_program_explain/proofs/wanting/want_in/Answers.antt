@@ -12,7 +12,8 @@ use Rattle.jv_operands.specs.Seen.{seen_unmet}
 use Rattle.jv_operands.specs.Unmet.{first_unmet}
 use Rattle.jv_verify.specs.Before.{seen_frame}
 use Rattle.jv_program_explain.specs.Inside.Wanting.{IsEnvironmentOf}
-use Rattle.jv_program_explain.proofs.BelowFaults.{class_there, code_read, code_shown, method_shown, starts_there}
+use Rattle.jv_program_explain.proofs.BelowFaults.{class_there}
+use Rattle.jv_program_explain.proofs.FaultsShown.{code_read, code_shown, method_shown, starts_there}
 use Rattle.jv_program_explain.proofs.UnmetWants.{shown_so, swapped, wanted_there}
 use Rattle.jv_program_explain.proofs.wanting.want_in.Goals as goal
 

@@ -2,10 +2,11 @@ use Rattle.std.proofs.Common.{◌≤◌, List, sym, ap, subst, ◌∙◌, arith}
 use Rattle.std.specs.Prelude.{IfOk}
 use Rattle.jv_class_structure.specs.Seen.{seen_code, seen_method}
 use Rattle.jv_stackmap.specs.Types.{words}
+use Rattle.jv_meaning_typing.specs.Judgement.{WithFrames}
 use Rattle.jv_verify_types.specs.Typed.{typed_all}
 use Rattle.jv_verify_types.specs.Numbered.{Item}
 use Rattle.jv_verify_types.specs.Current.{CurrentClass}
-use Rattle.jv_verify.specs.Frames.{AreBeforeAt}
+use Rattle.jv_verify_pass.specs.Before.{AreBefore}
 use Rattle.jv_verify.proofs.Environments.{has_room, of_read, read_in}
 use Rattle.jv_verify.proofs.check.frames_typed.Goals as goal
 
@@ -41,7 +42,7 @@ frames_in_tables-requires c =
 
 pub returns : goal.returns
 returns c = λ env of typed.
-    subst (λ (k : CurrentClass). IfOk c.frames_in_tables.result (AreBeforeAt k.types.world env.site c.args.offset)) c.new-read.ensures.class
+    subst (λ (k : CurrentClass). IfOk c.frames_in_tables.result (λ f. WithFrames k.types.world env.site (λ e ms. AreBefore e ms c.args.offset f))) c.new-read.ensures.class
     (c.frames_in_tables.ensures env
     (of_read c.new-read.result c.args.class.now (seen_method c.args.method.now) (seen_code c.args.body.now) c.args.types c.in_ok-items.items.items c.is_static.result c.is_named_init-is_init.result env
     c.new-read.ensures.class c.new-read.ensures.body (c.new-read.ensures.initial ∙ c.deref-2.ensures.value) c.new-read.ensures.is_init c.new-read.ensures.of of.0 of.1 c.is_static.ensures

@@ -1,9 +1,10 @@
 use Rattle.std.proofs.Common.{sym, ap, subst, ◌∙◌}
 use Rattle.jv_verify_rules.specs.Method.{MethodContext, IsOfMethod}
+use Rattle.jv_verify_pass.specs.Before.{IsTypedTo}
 use Rattle.jv_verify_pass.specs.Pass.{IsOfPass, maps_of}
 use Rattle.jv_verify.specs.Inside.Read.{ReadMethod}
 use Rattle.jv_verify.proofs.Parts.{of_pass, rooms_in}
-use Rattle.jv_verify.proofs.StandingBefore.{stand, typed_to}
+use Rattle.jv_verify.proofs.StandingBefore.{stand, with_others}
 use Rattle.jv_verify.proofs.read.ReadMethod.frames_before.Goals as goal
 
 pub new-pass-requires-clause-frames : goal.new-pass-requires-clause-frames
@@ -21,7 +22,7 @@ frames_before-requires c =
     (subst (λ (m : MethodContext). IsOfMethod m env) (sym c.new-pass.ensures.context) (c.context-context.ensures.of env has.of))
     (c.new-pass.ensures.types ∙ c.entry_types-types.ensures) (c.new-pass.ensures.locals ∙ ap (λ (m : ReadMethod). m.body.max_locals) c.self.view_is)
     (c.new-pass.ensures.handlers ∙ ap (λ (m : ReadMethod). m.body.exception_table) c.self.view_is) c.new-pass.ensures.frames in
-    (env, (of, typed_to c.one_maps.ensures env typed.maps (maps_of c.new-pass.result) typed.frames of.maps c.args.offset typed.typed))
+    (env, (of, with_others c.one_maps.ensures env typed.maps (maps_of c.new-pass.result) typed.frames of.maps (λ e ms. IsTypedTo e ms c.args.offset) typed.holds))
 
 pub returns : goal.returns
 returns c = λ env has typed.
