@@ -107,7 +107,7 @@ fn supers_keep_rules(parts: &Parts<'_>) -> bool
 }
 
 /// Whether the class's own flags and names keep their rules.
-pub(crate) fn itself_keeps_rules(parts: &Parts<'_>) -> bool
+pub fn itself_keeps_rules(parts: &Parts<'_>) -> bool
     ensures { IsTrue result ↔ ItselfKeepsRules parts.now }
 {
     are_of_class(parts.access_flags())

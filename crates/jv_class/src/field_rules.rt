@@ -90,7 +90,8 @@ fn field_keeps_rules(
     }
 }
 
-fn keeps_rules(pool: &Pool<'_>, class_flags: ClassFlags, field: Field) -> bool
+/// Whether a field keeps the rules, in a class with these flags.
+pub fn keeps_rules(pool: &Pool<'_>, class_flags: ClassFlags, field: Field) -> bool
     ensures { IsTrue result ↔ KeepsFieldShown pool.now class_flags.0 (seen_field field) }
 {
     let Some(name) = pool.utf8_index(field.name.0) else {

@@ -10,15 +10,16 @@ mod class_file;
 mod class_rules;
 mod constant_value;
 mod fault;
-mod field_rules;
+pub mod field_rules;
 mod flags;
 mod law;
-mod method_rules;
+pub mod method_rules;
 mod names;
 mod reading;
 mod supported;
 
 pub use class_file::ClassFile;
+pub use class_rules::itself_keeps_rules;
 pub use constant_value::ConstantValue;
 pub use fault::ClassFault;
 pub use jv_class_structure::{ClassFlags, Field, FieldFlags, Method, MethodCode, MethodFlags};

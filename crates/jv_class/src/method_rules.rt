@@ -188,7 +188,7 @@ fn keeps_rules(pool: &Pool<'_>, major: u16, class_flags: ClassFlags, method: Met
 }
 
 /// Whether the method at a place keeps the rules; also where there is none.
-fn keeps_rules_at(parts: &Parts<'_>, place: usize) -> bool
+pub fn keeps_rules_at(parts: &Parts<'_>, place: usize) -> bool
     ensures { IsTrue result ↔ IfSome (slice_get (methods_of parts.now) place)
         (KeepsMethodShown parts.now.constant_pool parts.now.major_version parts.now.access_flags) }
 {

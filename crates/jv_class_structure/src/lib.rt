@@ -16,4 +16,5 @@ pub use fault::PartsFault;
 pub use flags::{ClassFlags, FieldFlags, MethodFlags};
 pub use law::one_behind_version;
 pub use member::{Field, Method, MethodCode};
+pub use members::{field_at, method_at, three_at};
 pub use parts::{Parts, read_parts};

@@ -20,7 +20,7 @@ use jv_format::{ExceptionTable, bytes_at, half_at};
 use jv_pool::{Pool, Utf8Index};
 
 /// Three numbers, and what follows them.
-pub(crate) fn three_at(bytes: &[u8]) -> Option<((u16, u16, u16), &[u8])>
+pub fn three_at(bytes: &[u8]) -> Option<((u16, u16, u16), &[u8])>
     ensures { Finds three bytes.now (λ x. ((x.0.0, (x.0.1, x.0.2)), x.1.now)) result }
 {
     let Some((first, rest)) = half_at(bytes) else {
@@ -55,7 +55,7 @@ fn constant_value_at<'a>(
 }
 
 /// The field at the front, and what follows it.
-pub(crate) fn field_at<'a>(pool: &Pool<'_>, bytes: &'a [u8]) -> Option<(Field, &'a [u8])>
+pub fn field_at<'a>(pool: &Pool<'_>, bytes: &'a [u8]) -> Option<(Field, &'a [u8])>
     ensures { Finds (field_kept pool.now) bytes.now (λ x. (seen_field x.0, x.1.now)) result }
 {
     let Some(((flags, name, descriptor), rest)) = three_at(bytes) else {
@@ -327,7 +327,7 @@ fn codes_at<'a>(pool: &Pool<'_>, bytes: &'a [u8]) -> Option<(Option<PackedCode<'
 // ---- methods
 
 /// The method at the front, and what follows it.
-pub(crate) fn method_at<'a>(pool: &Pool<'_>, bytes: &'a [u8]) -> Option<(Method<'a>, &'a [u8])>
+pub fn method_at<'a>(pool: &Pool<'_>, bytes: &'a [u8]) -> Option<(Method<'a>, &'a [u8])>
     ensures { Finds (method_kept pool.now) bytes.now (λ x. (seen_method x.0, x.1.now)) result }
 {
     let Some(((flags, name, descriptor), rest)) = three_at(bytes) else {

@@ -33,7 +33,7 @@ fn first_of<'a>(
 }
 
 /// The least index of the text at each index, and any number where there is none.
-pub(crate) fn all_alike(alloc: Global, table: &Table<'_>) -> Result<Vec<u16>, PoolFault>
+pub fn all_alike(alloc: Global, table: &Table<'_>) -> Result<Vec<u16>, PoolFault>
     ensures ok { IfOk result (λ alike. IsInOrder table.now alike.items) }
     ensures err { IfErr result (λ e. e ≡ OutOfMemory) }
 {

@@ -18,7 +18,7 @@ use std::marker::Model;
 /// A table of constants, which may break their rules, with what is known of its texts: facts for each text once, however many Utf8
 /// constants have it, and for each index where its facts stand, one more than the number of those before, or 0.
 #[derive(Drop)]
-pub(crate) struct Known<'a> {
+pub struct Known<'a> {
     table: Table<'a>,
     facts: Vec<TextFacts>,
     places: Vec<u16>,
@@ -104,11 +104,7 @@ fn known_in(facts: &[TextFacts], place: u16) -> Option<TextFacts>
 
 impl<'a> Known<'a> {
     /// The table, with what is known of its texts, by the least index of the text at each index.
-    pub(crate) fn new(
-        alloc: Global,
-        table: Table<'a>,
-        alike: &[u16],
-    ) -> Result<Known<'a>, PoolFault>
+    pub fn new(alloc: Global, table: Table<'a>, alike: &[u16]) -> Result<Known<'a>, PoolFault>
         requires { IsInOrder table alike.now }
         ensures ok { IfOk result (λ known. known ≡ table.entry) }
         ensures err { IfErr result (λ e. e ≡ OutOfMemory) }
@@ -124,7 +120,7 @@ impl<'a> Known<'a> {
     }
 
     /// The table.
-    pub(crate) fn table(&self) -> &Table<'a>
+    pub fn table(&self) -> &Table<'a>
         ensures { result.now ≡ self.now }
     {
         &self.table

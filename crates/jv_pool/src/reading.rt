@@ -156,7 +156,7 @@ fn contents_at(shape: Option<ConstantShape>, bytes: &[u8]) -> Option<(Constant<&
 
 /// The constant at the front, and what follows it. In line where one kind is asked for, it is read as that kind alone.
 #[inline(always)]
-pub(crate) fn constant_at(bytes: &[u8]) -> Option<(Constant<&[u8]>, &[u8])>
+pub fn constant_at(bytes: &[u8]) -> Option<(Constant<&[u8]>, &[u8])>
     ensures { Finds constant bytes.now (λ x. (seen x.0, x.1.now)) result }
 {
     let Some((tag, rest)) = byte_at(bytes) else {
@@ -211,8 +211,12 @@ fn listed(alloc: Global, length: u16, bytes: &[u8]) -> Result<(Table<'_>, &[u8])
 }
 
 /// The count at the front and the constants behind it, and what follows them.
+///
+/// # Errors
+///
+/// `BadPool` where none are spelled there; `OutOfMemory` where the host had none for their places.
 #[tactic(auto, using(crate::proofs::Constants::constants_read))]
-pub(crate) fn table_at(alloc: Global, bytes: &[u8]) -> Result<(Table<'_>, &[u8]), PoolFault>
+pub fn table_at(alloc: Global, bytes: &[u8]) -> Result<(Table<'_>, &[u8]), PoolFault>
     ensures { Gives constants bytes.now (λ x. (x.0, x.1.now)) result }
 {
     let Some((count, rest)) = half_at(bytes) else {

@@ -237,7 +237,8 @@ fn keeps_rules(known: &Known<'_>, constant: Constant<&[u8]>) -> bool
     }
 }
 
-fn keeps_rules_at(known: &Known<'_>, index: u16) -> bool
+/// Whether the constant at an index keeps the rules of its kind (JVMS 4.4); also where none is there.
+pub fn keeps_rules_at(known: &Known<'_>, index: u16) -> bool
     ensures { IsTrue result ↔ IsKept known.now (at_index known.now index) }
 {
     match known.table().constant(index) {

@@ -15,7 +15,7 @@ use std::marker::Model;
 /// The table: where each constant stands in the file, and behind a Long and a Double a second entry, 0. Constants may break their
 /// rules. An entry takes four bytes, and what it is is read again where it is asked for.
 #[derive(Drop)]
-pub(crate) struct Table<'a> {
+pub struct Table<'a> {
     count: u16,
     bytes: &'a [u8],
     places: Vec<u32>,
@@ -119,7 +119,7 @@ impl<'a> Table<'a> {
     }
 
     /// One more than the number of entries.
-    pub(crate) fn count(&self) -> u16
+    pub fn count(&self) -> u16
         ensures { result ≡ pool_count self.now }
     {
         self.count
@@ -127,14 +127,14 @@ impl<'a> Table<'a> {
 
     /// The constant at an index.
     #[inline(always)]
-    pub(crate) fn constant(&self, index: u16) -> Option<Constant<&'a [u8]>>
+    pub fn constant(&self, index: u16) -> Option<Constant<&'a [u8]>>
         ensures { option_map seen result ≡ at_index self.now index }
     {
         entry_at(self.bytes, &self.places, index)
     }
 
     /// The kind of the constant at an index.
-    pub(crate) fn kind(&self, index: u16) -> Option<Kind>
+    pub fn kind(&self, index: u16) -> Option<Kind>
         ensures { result ≡ kind_at self.now index }
     {
         match self.constant(index) {
