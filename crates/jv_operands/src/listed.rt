@@ -25,8 +25,7 @@ pub(crate) fn ints<'a>(alloc: Global, count: u8) -> Result<Vec<Want<&'a [u8]>>, 
     ensures { IfOk result (λ list. map seen_want list.items ≡ replicate count (of_type types.Int)) }
 {
     let mut list = Vec::with_capacity(alloc, usize::from(count))?;
-    for place in 0..count {
-        let _place = place;
+    for _ in 0..count {
         list.push(Want::Type(VerificationTypeOf::Int))?;
     }
     Ok(list)

@@ -5,5 +5,5 @@ use Rattle.jv_operands.specs.Seen.{seen_want}
 use Rattle.jv_operands.specs.Wants.{of_type}
 use Rattle.jv_operands.proofs.listed.ints.Given as goal
 
-abbrev pub invariant-loop-place : goal.invariant-loop-place
-invariant-loop-place l = map seen_want l.list.items ≡ replicate l.place (of_type types.Int)
+abbrev pub invariant-loop : goal.invariant-loop
+invariant-loop l = map seen_want l.list.items ≡ replicate l.counter (of_type types.Int)
