@@ -26,4 +26,5 @@ pub mod DivisionsWork
 pub mod AtPlace
 pub mod StepsStand
 pub mod OpcodesStand
+pub mod SwitchesStand
 pub mod RunsOn

@@ -6,3 +6,4 @@ pub mod Forms
 pub mod Calls
 pub mod Branches
 pub mod Dividing
+pub mod Switches

@@ -1,5 +1,5 @@
--- The opcodes of the instructions at which a step is taken in words (JVMS 6.5): they work on the words of their frame alone, throw
--- nothing, and have all their operands in the two bytes behind the opcode.
+-- The opcodes of the instructions at which a step is taken in words (JVMS 6.5): they work on the words of their frame alone, and throw
+-- nothing. lookupswitch, wide and goto_w do so too, and are decoded: a search in the loop of these steps would make each of them dearer.
 use Rattle.std.specs.Prelude.{ℕ, Bool, ◌||◌}
 use Rattle.jv_format.specs.Numbers.{is_from_to}
 
@@ -21,11 +21,11 @@ computes_alone opcode =
     is_from_to 87 97 opcode || (is_from_to 100 101 opcode || (is_from_to 104 105 opcode || (is_from_to 116 117 opcode
     || (is_from_to 120 133 opcode || (is_from_to 136 136 opcode || is_from_to 145 148 opcode)))))
 
--- ifeq to if_acmpne, goto; ifnull, ifnonnull
+-- ifeq to if_acmpne, goto; tableswitch; ifnull, ifnonnull
 abbrev pub branches_alone : ℕ → Bool
-branches_alone opcode = is_from_to 153 167 opcode || is_from_to 198 199 opcode
+branches_alone opcode = is_from_to 153 167 opcode || (is_from_to 170 170 opcode || is_from_to 198 199 opcode)
 
--- All of these: 96.
+-- All of these: 97.
 abbrev pub works_alone : ℕ → Bool
 works_alone opcode =
     pushes_constant opcode || (loads_local opcode || (stores_local opcode || (computes_alone opcode || branches_alone opcode)))

@@ -5,6 +5,7 @@ ghost use Rattle.jv_format.specs.Format.{byte, half};
 ghost use Rattle.jv_code.specs.Numbers.{signed8, signed16};
 ghost use Rattle.jv_code.specs.Places.{IsStart};
 ghost use Rattle.jv_code.specs.Operands.{HasBytes, least_operands};
+ghost use Rattle.jv_interp_words.specs.Inside.Switches.{quad_there, signed_there};
 
 /// The opcode of the instruction at an offset.
 #[inline(always)]
@@ -83,6 +84,27 @@ pub(crate) fn distance_at(code: &[u8], at: usize) -> i32
     ensures fits { IsTrue (signed16.fits result) }
 {
     i32::from(half_constant(code, at))
+}
+
+/// The number in the four bytes at an offset.
+#[inline(always)]
+fn quad_at(code: &[u8], at: usize) -> u32
+    requires { at + 4 ≤ length code.now }
+    ensures { result ≡ quad_there code.now at }
+{
+    u32::from(code[at]) * 16_777_216
+        + u32::from(code[at + 1]) * 65_536
+        + u32::from(code[at + 2]) * 256
+        + u32::from(code[at + 3])
+}
+
+/// The signed number in the four bytes at an offset.
+#[inline(always)]
+pub(crate) fn signed_quad_at(code: &[u8], at: usize) -> i32
+    requires { at + 4 ≤ length code.now }
+    ensures { result ≡ signed_there code.now at }
+{
+    quad_at(code, at).cast_signed()
 }
 
 /// The signed number in the byte at an offset, as what is added to a local variable.

@@ -16,12 +16,13 @@ use crate::local_steps::{
 };
 use crate::opcodes;
 use crate::registers::Registers;
+use crate::switch_steps::step_table_switch;
 use jv_code::{
     ArithmeticOperator, Computation, Condition, Conversion, Equality, IntForm, LongValue,
     NumberKind, ShiftOperator, StackForm, ValueKind, WordKind,
 };
 
-/// Takes a step where the opcode at hand is one of 96 whose instructions work on the words of their frame alone, and go on, and answers 0;
+/// Takes a step where the opcode at hand is one of 97 whose instructions work on the words of their frame alone, and go on, and answers 0;
 /// else nothing is done, and one more than the opcode is the answer. Each of the others has an arm with a number of its own, which is not
 /// the opcode itself: so the compiler jumps from here right to what is done with that answer, and tests no range of opcodes.
 #[inline(always)]
@@ -557,7 +558,10 @@ pub fn step_in_words<'l>(words: &mut [u32], at: &mut Registers<'l>) -> u16
         }
         opcodes::JSR => opcodes::JSR as u16 + 1,
         opcodes::RET => opcodes::RET as u16 + 1,
-        opcodes::TABLESWITCH => opcodes::TABLESWITCH as u16 + 1,
+        opcodes::TABLESWITCH => {
+            step_table_switch(words, at);
+            0
+        }
         opcodes::LOOKUPSWITCH => opcodes::LOOKUPSWITCH as u16 + 1,
         opcodes::IRETURN => opcodes::IRETURN as u16 + 1,
         opcodes::LRETURN => opcodes::LRETURN as u16 + 1,

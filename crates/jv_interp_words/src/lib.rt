@@ -26,6 +26,7 @@ mod records;
 mod references;
 mod registers;
 mod running;
+mod switch_steps;
 mod switches;
 mod words;
 
