@@ -203,6 +203,7 @@ impl<'a, S: Store> Host<'a, S> {
     {
         never_faults();
         one_judged();
+        // Reads a field, so that the invariant is known.
         let _known = &self.guests;
     }
 

@@ -26,6 +26,7 @@ pub(crate) fn next_number(classes: &Classes<'_>, number: usize, verdict: Verdict
     requires { IsTrue (joins (why_of verdict)) → number < length classes.now.world }
     ensures { result ≡ next_number number (why_of verdict) }
 {
+    // Its clauses tell that the classes are few.
     let _count = classes.table().count();
     if joins(verdict) { number + 1 } else { number }
 }

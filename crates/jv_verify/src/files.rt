@@ -58,6 +58,7 @@ pub(crate) fn next_number(classes: &Classes<'_>, number: usize, why: Option<Load
     requires { IsTrue (joins why) → number < length classes.now.world }
     ensures { result ≡ next_number number why }
 {
+    // Its clauses tell that the classes are few.
     let _count = classes.table().count();
     if joins(why) { number + 1 } else { number }
 }

@@ -129,6 +129,7 @@ fn unmet_from<'a>(
         return Ok(None);
     }
     let code = pass.context.code();
+    // Its clauses tell that the code is short.
     let _few = code.size();
     let (insn, _next) = code.insn_at(offset);
     unmet_behind(alloc, pass, frame, offset, &insn)

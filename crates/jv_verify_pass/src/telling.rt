@@ -75,6 +75,7 @@ fn tell_from<'a, S: FrameSink<'a>>(
     stands_in_list();
     starts_apart();
     let code = pass.context.code();
+    // Its clauses tell that the code is short.
     let _size = code.size();
     let mut falls = true;
     let mut offset = 0;
