@@ -1,1 +1,4 @@
+mod Items
+mod Walking
+mod Breaking
 mod Starting

@@ -1,24 +1,17 @@
 -- Bytes that begin like a class file, and what is at fault behind that.
-use Rattle.std.proofs.Common.{◌≡◌, ℕ, Bool, true, false, List, ◌++◌, Option, Some, None, sym, ap, ◌∙◌, refl}
-use Rattle.std.specs.Prelude.{take, drop}
+use Rattle.std.proofs.Common.{◌≡◌, ℕ, Bool, true, false, List, Option, Some, None, sym, ap, ◌∙◌, refl}
 use Rattle.std.proofs.lemmas.Bool.{and_parts, and_from, ltb-true, lt-ltb}
 use Rattle.jv_format.specs.Format.{IsBytes, half, quad}
 use Rattle.jv_format.specs.Readers.{both}
 use Rattle.jv_format.proofs.Laws.{IsFormat, half_is, quad_is, both_is, such_is}
-use Rattle.jv_pool.specs.Constants.{Entry}
-use Rattle.jv_pool.specs.Rules.{IsPool}
-use Rattle.std.proofs.lemmas.List.{take-append-drop}
-use Rattle.jv_class_structure.specs.Parts.{IsBehindVersion}
-use Rattle.jv_class_structure.specs.Structure.{ClassStructure}
 use Rattle.jv_class_structure.specs.Version.{is_supported_version}
 use Rattle.jv_class.specs.Inside.Reading.{Three, magic_number, header}
 use Rattle.jv_class.specs.ClassFile.{IsOtherVersion}
-use Rattle.jv_class.specs.Rules.{KeepsClassRules}
 use Rattle.jv_class.proofs.Whole.{other_version, not_supported, class_from_behind}
 use Rattle.jv_meaning_world.specs.FileContent.{IsContent}
 use Rattle.jv_meaning_world.specs.declared.content.Content.TheVariants.{NoClassFile}
-use Rattle.jv_malformed.specs.Part.{BeginsBefore, BeginsWithPool, IsFaultyPart}
-use Rattle.jv_malformed.specs.Inside.Behind.{IsFaultyBehind}
+use Rattle.jv_malformed.specs.Part.{BeginsBefore, IsFaultyPart}
+use Rattle.jv_malformed.specs.Inside.Behind.{NoClassBehind, IsFaultyUnlessClass}
 use Rattle.jv_malformed.specs.Text.{TellsVersion, version_text}
 use Rattle.jv_malformed.specs.declared.part.FaultyPart.{FaultyPart}
 use Rattle.jv_malformed.specs.declared.part.FaultyPart.TheVariants.{Start, Constants, Structure, Rules}
@@ -53,7 +46,7 @@ no_start bytes none rest b =
 
 -- a structure that stands behind the version of no class file breaks a rule
 breaks : (bytes rest : List ℕ) (minor major : ℕ) → IsBytes bytes → header.read bytes ≡ Some (numbers minor major, rest)
-    → IsContent bytes NoClassFile → (c : ClassStructure) → IsBehindVersion major rest c → KeepsClassRules c → ⊥
+    → IsContent bytes NoClassFile → NoClassBehind major rest
 breaks bytes rest minor major small found none c behind rules = by_version (is_supported_version minor major) refl
   where
     by_version : (v : Bool) → is_supported_version minor major ≡ v → ⊥
@@ -61,20 +54,14 @@ breaks bytes rest minor major small found none c behind rules = by_version (is_s
     by_version false off = none.0 (other_version bytes rest minor major small found (not_supported minor major false (sym off) refl))
 
 pub faulty : (bytes rest : List ℕ) (minor major : ℕ) → IsBytes bytes → header.read bytes ≡ Some (numbers minor major, rest)
-    → (part : FaultyPart) → IsFaultyBehind major rest part → IsContent bytes NoClassFile → IsFaultyPart bytes part
-faulty bytes rest minor major small found Start h none = absurd h
-faulty bytes rest minor major small found Constants h none = (rest, begins_before bytes rest minor major small found, h)
-faulty bytes rest minor major small found Structure h none = (rest, begins_before bytes rest minor major small found, h)
-faulty bytes rest minor major small found Rules h none =
-    (rest, begins_before bytes rest minor major small found, (h.0, h.1, breaks bytes rest minor major small found none h.0 h.1))
-
--- a pool of which so many bytes are taken
-pub pool_there : (bytes : List ℕ) (pool : List Entry) (n : ℕ) → IsPool (take n bytes) pool → BeginsWithPool bytes
-pool_there bytes pool n is =
-    record { pool = pool; front = take n bytes; rest = drop n bytes; begins = sym (take-append-drop n bytes); is_pool = is }
-
-pub no_pool : (bytes : List ℕ) → ((pool : List Entry) (front rest : List ℕ) → bytes ≡ front ++ rest → IsPool front pool → ⊥) → BeginsWithPool bytes → ⊥
-no_pool bytes none b = none b.pool b.front b.rest b.begins b.is_pool
+    → (part : FaultyPart) → IsFaultyUnlessClass major rest part → IsContent bytes NoClassFile → IsFaultyPart bytes part
+faulty bytes rest minor major small found Start h none = absurd (h (breaks bytes rest minor major small found none))
+faulty bytes rest minor major small found (Constants fault) h none =
+    (rest, begins_before bytes rest minor major small found, h (breaks bytes rest minor major small found none))
+faulty bytes rest minor major small found Structure h none =
+    (rest, begins_before bytes rest minor major small found, h (breaks bytes rest minor major small found none))
+faulty bytes rest minor major small found (Rules fault) h none =
+    (rest, begins_before bytes rest minor major small found, h (breaks bytes rest minor major small found none))
 
 one_found : {A : Type 0} (x y : A) → Some x ≡ Some y → x ≡ y
 one_found x y both = cc

@@ -1,3 +1,4 @@
+pub mod First
 pub mod Inside
 pub mod Part
 pub mod Text

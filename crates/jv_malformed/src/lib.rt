@@ -3,9 +3,15 @@
 #![tactic(auto)]
 
 mod part;
+mod pool;
+mod pool_text;
+mod rules;
+mod rules_text;
 mod text;
 mod version;
 
 pub use part::{FaultyPart, faulty_part};
+pub use pool::FaultyPool;
+pub use rules::FaultyRules;
 pub use text::explain_malformed;
 pub use version::explain_version;

@@ -5,12 +5,13 @@ ghost use Rattle.jv_format.specs.Format.{Finds};
 ghost use Rattle.jv_meaning_world.specs.FileContent.{IsContent};
 ghost use Rattle.jv_meaning_world.specs.declared.content.Content.TheVariants.{NoClassFile};
 ghost use Rattle.jv_class.specs.Inside.Reading.{header, magic_number};
-ghost use Rattle.jv_malformed.specs.Inside.Behind.{IsFaultyBehind};
+ghost use Rattle.jv_malformed.specs.Inside.Behind.{IsFaultyUnlessClass};
 ghost use Rattle.jv_malformed.specs.Part.{BeginsWithPool, IsFaultyPart};
 
+use crate::pool::{FaultyPool, fault_of_pool};
+use crate::rules::{FaultyRules, fault_of_rules};
 use jv_class_structure::{PartsFault, read_parts};
 use jv_format::{half_at, quad_at};
-use jv_pool::{PoolFault, read_pool};
 use std::alloc::{AllocError, Global};
 
 /// The parts of a class file, in its order (JVMS 4.1): each is at fault only where those before it stand.
@@ -19,11 +20,11 @@ pub enum FaultyPart {
     /// The magic number and the version.
     Start,
     /// The constant pool (4.4).
-    Constants,
+    Constants(FaultyPool),
     /// The structure behind the constant pool, attributes included (4.5 to 4.7).
     Structure,
     /// The rules on names, types and flags (4.1, 4.2, 4.5, 4.6), in a structure that stands.
-    Rules,
+    Rules(FaultyRules),
 }
 
 /// What follows the magic number.
@@ -59,10 +60,10 @@ pub(crate) fn version_at(bytes: &[u8]) -> Option<((u16, u16), &[u8])>
 /// The part behind a constant pool that is at fault, where one is: what stands there, or the rules on it.
 fn faulty_behind_pool(alloc: Global, major: u16, bytes: &[u8]) -> Result<FaultyPart, AllocError>
     requires { BeginsWithPool bytes.now }
-    ensures { IfOk result (IsFaultyBehind major bytes.now) }
+    ensures { IfOk result (IsFaultyUnlessClass major bytes.now) }
 {
     match read_parts(alloc, major, bytes) {
-        Ok(_) => Ok(FaultyPart::Rules),
+        Ok(parts) => Ok(FaultyPart::Rules(fault_of_rules(&parts))),
         Err(PartsFault::Format) => Ok(FaultyPart::Structure),
         Err(PartsFault::OutOfMemory) => Err(AllocError),
     }
@@ -70,12 +71,11 @@ fn faulty_behind_pool(alloc: Global, major: u16, bytes: &[u8]) -> Result<FaultyP
 
 /// The part behind a version that is at fault, where one is.
 fn faulty_behind(alloc: Global, major: u16, bytes: &[u8]) -> Result<FaultyPart, AllocError>
-    ensures { IfOk result (IsFaultyBehind major bytes.now) }
+    ensures { IfOk result (IsFaultyUnlessClass major bytes.now) }
 {
-    match read_pool(alloc, bytes) {
-        Ok(_) => faulty_behind_pool(alloc, major, bytes),
-        Err(PoolFault::BadPool) => Ok(FaultyPart::Constants),
-        Err(PoolFault::OutOfMemory) => Err(AllocError),
+    match fault_of_pool(alloc, bytes)? {
+        Some(fault) => Ok(FaultyPart::Constants(fault)),
+        None => faulty_behind_pool(alloc, major, bytes),
     }
 }
 

@@ -13,21 +13,17 @@ impl fmt::Display for FaultyPart {
     ghost output = { λ part. Some (part_text part) };
 
     fn fmt<W: fmt::Write>(&self, f: &mut fmt::Formatter<W>) -> fmt::Result {
-        match self {
+        match *self {
             FaultyPart::Start => {
                 f.write_str(
                     "  the start is not that of a class file: CAFEBABE and a version, eight bytes (JVMS 4.1)\n",
                 )
             }
-            FaultyPart::Constants => f.write_str(
-                "  the constant pool: a constant is cut off, has the tag of none, or breaks a rule of its kind (JVMS 4.4)\n",
-            ),
+            FaultyPart::Constants(fault) => write!(f, "{fault}"),
             FaultyPart::Structure => f.write_str(
                 "  behind the constant pool: a part is cut off or left over, or an attribute may not stand so (JVMS 4.1, 4.7)\n",
             ),
-            FaultyPart::Rules => f.write_str(
-                "  the class, a field or a method: a name, a descriptor or flags break a rule (JVMS 4.1, 4.2, 4.5, 4.6)\n",
-            ),
+            FaultyPart::Rules(fault) => write!(f, "{fault}"),
         }
     }
 }

@@ -1,14 +1,22 @@
 -- What the code finds behind a version.
-use Rattle.std.specs.Prelude.{ℕ, List}
+use Rattle.std.specs.Prelude.{ℕ, List, Option, Some, None, slice_get}
+use Rattle.std.specs.List.{All}
 use Rattle.jv_class_structure.specs.Parts.{IsBehindVersion}
 use Rattle.jv_class_structure.specs.Structure.{ClassStructure}
-use Rattle.jv_malformed.specs.Part.{BeginsWithPool}
+use Rattle.jv_class.specs.Rules.{KeepsClassRules}
+use Rattle.jv_malformed.specs.First.{IsFirstBreach}
+use Rattle.jv_malformed.specs.Part.{IsFaultyBehind}
 use Rattle.jv_malformed.specs.declared.part.FaultyPart.{FaultyPart}
-use Rattle.jv_malformed.specs.declared.part.FaultyPart.TheVariants.{Start, Constants, Structure, Rules}
 
--- the same, where a structure that stands there is known to break a rule
-abbrev pub IsFaultyBehind : (major : ℕ) → List ℕ → FaultyPart → Type 0
-IsFaultyBehind major rest Start = ⊥
-IsFaultyBehind major rest Constants = ¬ BeginsWithPool rest
-IsFaultyBehind major rest Structure = BeginsWithPool rest × ((c : ClassStructure) → IsBehindVersion major rest c → ⊥)
-IsFaultyBehind major rest Rules = (c : ClassStructure) × IsBehindVersion major rest c
+-- no structure that stands there keeps the rules
+abbrev pub NoClassBehind : (major : ℕ) → List ℕ → Type 0
+NoClassBehind major rest = (c : ClassStructure) → IsBehindVersion major rest c → KeepsClassRules c → ⊥
+
+-- what is at fault, where that is so
+abbrev pub IsFaultyUnlessClass : (major : ℕ) → List ℕ → FaultyPart → Type 0
+IsFaultyUnlessClass major rest part = NoClassBehind major rest → IsFaultyBehind major rest part
+
+-- the place of the first item that breaks a rule, where one does
+abbrev pub IsFoundAmong : {A : Type 0} → (A → Type 0) → List A → Option ℕ → Type 0
+IsFoundAmong Keeps items None = All Keeps items
+IsFoundAmong Keeps items (Some place) = IsFirstBreach Keeps (slice_get items) place
