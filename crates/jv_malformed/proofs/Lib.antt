@@ -1,4 +1,5 @@
 mod Items
 mod Walking
 mod Breaking
+mod Passing
 mod Starting

@@ -58,7 +58,7 @@ pub faulty : (bytes rest : List ℕ) (minor major : ℕ) → IsBytes bytes → h
 faulty bytes rest minor major small found Start h none = absurd (h (breaks bytes rest minor major small found none))
 faulty bytes rest minor major small found (Constants fault) h none =
     (rest, begins_before bytes rest minor major small found, h (breaks bytes rest minor major small found none))
-faulty bytes rest minor major small found Structure h none =
+faulty bytes rest minor major small found (Structure fault) h none =
     (rest, begins_before bytes rest minor major small found, h (breaks bytes rest minor major small found none))
 faulty bytes rest minor major small found (Rules fault) h none =
     (rest, begins_before bytes rest minor major small found, h (breaks bytes rest minor major small found none))

@@ -7,6 +7,8 @@ use Rattle.jv_class.specs.ClassFile.{IsOtherVersion}
 use Rattle.jv_malformed.specs.Part.{IsFaultyPart}
 use Rattle.jv_malformed.specs.declared.pool.FaultyPool.{FaultyPool}
 use Rattle.jv_malformed.specs.declared.pool.FaultyPool.TheVariants.{Count, Missing, Broken}
+use Rattle.jv_malformed.specs.declared.structure.FaultyStructure.{FaultyStructure}
+use Rattle.jv_malformed.specs.declared.structure.FaultyStructure.TheVariants as structures
 use Rattle.jv_malformed.specs.declared.rules.FaultyRules.{FaultyRules}
 use Rattle.jv_malformed.specs.declared.rules.FaultyRules.TheVariants.{Class, Field, Method, Alike}
 use Rattle.jv_malformed.specs.declared.part.FaultyPart.{FaultyPart}
@@ -32,6 +34,20 @@ pool_text (Missing index) =
     codes "  constant " ++ decimal index ++ codes ": it is cut off, or no constant has such a tag (JVMS 4.4)" ++ 10 ∷ []
 pool_text (Broken index kind) = codes "  constant " ++ decimal index ++ codes " is " ++ broken_text kind ++ 10 ∷ []
 
+abbrev pub structure_text : FaultyStructure → List ℕ
+structure_text structures.Head =
+    codes "  behind the constant pool: the flags, the names of the class and its superclass, or the interfaces are cut off (JVMS 4.1)"
+    ++ 10 ∷ []
+structure_text structures.FieldCount = codes "  behind the interfaces: the count of the fields is cut off (JVMS 4.1)" ++ 10 ∷ []
+structure_text (structures.Field place) =
+    codes "  field " ++ decimal place ++ codes ": it is cut off, or an attribute of it may not stand so (JVMS 4.5, 4.7)" ++ 10 ∷ []
+structure_text structures.MethodCount = codes "  behind the fields: the count of the methods is cut off (JVMS 4.1)" ++ 10 ∷ []
+structure_text (structures.Method place) =
+    codes "  method " ++ decimal place ++ codes ": it is cut off, or an attribute of it may not stand so (JVMS 4.6, 4.7)" ++ 10 ∷ []
+structure_text structures.End =
+    codes "  behind the methods: an attribute of the class is cut off or has no name, or bytes are left over (JVMS 4.1, 4.7)"
+    ++ 10 ∷ []
+
 abbrev pub rules_text : FaultyRules → List ℕ
 rules_text Class =
     codes "  the class: its flags, its name, its superclass or its interfaces break a rule (JVMS 4.1)" ++ 10 ∷ []
@@ -46,8 +62,7 @@ rules_text Alike = codes "  two fields or two methods have the same name and des
 abbrev pub part_text : FaultyPart → List ℕ
 part_text Start = codes "  the start is not that of a class file: CAFEBABE and a version, eight bytes (JVMS 4.1)" ++ 10 ∷ []
 part_text (Constants fault) = pool_text fault
-part_text Structure =
-    codes "  behind the constant pool: a part is cut off or left over, or an attribute may not stand so (JVMS 4.1, 4.7)" ++ 10 ∷ []
+part_text (Structure fault) = structure_text fault
 part_text (Rules fault) = rules_text fault
 
 -- of the part at which the bytes stop being a class file

@@ -7,11 +7,14 @@ mod pool;
 mod pool_text;
 mod rules;
 mod rules_text;
+mod structure;
+mod structure_text;
 mod text;
 mod version;
 
 pub use part::{FaultyPart, faulty_part};
 pub use pool::FaultyPool;
 pub use rules::FaultyRules;
+pub use structure::FaultyStructure;
 pub use text::explain_malformed;
 pub use version::explain_version;

@@ -10,6 +10,7 @@ ghost use Rattle.jv_malformed.specs.Part.{BeginsWithPool, IsFaultyPart};
 
 use crate::pool::{FaultyPool, fault_of_pool};
 use crate::rules::{FaultyRules, fault_of_rules};
+use crate::structure::{FaultyStructure, fault_of_structure};
 use jv_class_structure::{PartsFault, read_parts};
 use jv_format::{half_at, quad_at};
 use std::alloc::{AllocError, Global};
@@ -22,7 +23,7 @@ pub enum FaultyPart {
     /// The constant pool (4.4).
     Constants(FaultyPool),
     /// The structure behind the constant pool, attributes included (4.5 to 4.7).
-    Structure,
+    Structure(FaultyStructure),
     /// The rules on names, types and flags (4.1, 4.2, 4.5, 4.6), in a structure that stands.
     Rules(FaultyRules),
 }
@@ -64,7 +65,10 @@ fn faulty_behind_pool(alloc: Global, major: u16, bytes: &[u8]) -> Result<FaultyP
 {
     match read_parts(alloc, major, bytes) {
         Ok(parts) => Ok(FaultyPart::Rules(fault_of_rules(&parts))),
-        Err(PartsFault::Format) => Ok(FaultyPart::Structure),
+        Err(PartsFault::Format) => {
+            let fault = fault_of_structure(alloc, major, bytes)?;
+            Ok(FaultyPart::Structure(fault))
+        }
         Err(PartsFault::OutOfMemory) => Err(AllocError),
     }
 }

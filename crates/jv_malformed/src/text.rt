@@ -20,9 +20,7 @@ impl fmt::Display for FaultyPart {
                 )
             }
             FaultyPart::Constants(fault) => write!(f, "{fault}"),
-            FaultyPart::Structure => f.write_str(
-                "  behind the constant pool: a part is cut off or left over, or an attribute may not stand so (JVMS 4.1, 4.7)\n",
-            ),
+            FaultyPart::Structure(fault) => write!(f, "{fault}"),
             FaultyPart::Rules(fault) => write!(f, "{fault}"),
         }
     }

@@ -8,6 +8,10 @@ use Rattle.jv_malformed.specs.First.{IsFirstBreach}
 use Rattle.jv_malformed.specs.Part.{IsFaultyBehind}
 use Rattle.jv_malformed.specs.declared.part.FaultyPart.{FaultyPart}
 
+-- no structure stands there
+abbrev pub NoStructure : (major : ℕ) → List ℕ → Type 0
+NoStructure major rest = (c : ClassStructure) → IsBehindVersion major rest c → ⊥
+
 -- no structure that stands there keeps the rules
 abbrev pub NoClassBehind : (major : ℕ) → List ℕ → Type 0
 NoClassBehind major rest = (c : ClassStructure) → IsBehindVersion major rest c → KeepsClassRules c → ⊥
