@@ -36,7 +36,7 @@ pool_text (Broken index kind) = codes "  constant " ++ decimal index ++ codes " 
 
 abbrev pub structure_text : FaultyStructure → List ℕ
 structure_text structures.Head =
-    codes "  behind the constant pool: the flags, the names of the class and its superclass, or the interfaces are cut off (JVMS 4.1)"
+    codes "  behind the constant pool: the flags, the class, its superclass or its interfaces are cut off (JVMS 4.1)"
     ++ 10 ∷ []
 structure_text structures.FieldCount = codes "  behind the interfaces: the count of the fields is cut off (JVMS 4.1)" ++ 10 ∷ []
 structure_text (structures.Field place) =

@@ -12,7 +12,7 @@ impl fmt::Display for FaultyStructure {
     fn fmt<W: fmt::Write>(&self, f: &mut fmt::Formatter<W>) -> fmt::Result {
         match *self {
             FaultyStructure::Head => f.write_str(
-                "  behind the constant pool: the flags, the names of the class and its superclass, or the interfaces are cut off (JVMS 4.1)\n",
+                "  behind the constant pool: the flags, the class, its superclass or its interfaces are cut off (JVMS 4.1)\n",
             ),
             FaultyStructure::FieldCount => f.write_str(
                 "  behind the interfaces: the count of the fields is cut off (JVMS 4.1)\n",
