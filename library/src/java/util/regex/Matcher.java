@@ -117,6 +117,29 @@ public final class Matcher implements MatchResult {
         return from < 0 ? null : text.substring(from, place(group, 1));
     }
 
+    private int named(String name) {
+        int group = pattern.groupOf(java.util.Objects.requireNonNull(name, "Group name"));
+        if (places == null) {
+            throw new IllegalStateException("No match found");
+        }
+        if (group < 0) {
+            throw new IllegalArgumentException("No group with name <" + name + ">");
+        }
+        return group;
+    }
+
+    public String group(String name) {
+        return group(named(name));
+    }
+
+    public int start(String name) {
+        return start(named(name));
+    }
+
+    public int end(String name) {
+        return end(named(name));
+    }
+
     public MatchResult toMatchResult() {
         Matcher copy = new Matcher(pattern, text);
         copy.places = places;
@@ -142,14 +165,27 @@ public final class Matcher implements MatchResult {
                 out.append(by.charAt(i));
             } else if (c == '$') {
                 i++;
-                if (i == by.length() || !Character.isDigit(by.charAt(i))) {
+                int group;
+                if (i < by.length() && by.charAt(i) == '{') {
+                    int close = by.indexOf('}', i);
+                    if (close < 0) {
+                        throw new IllegalArgumentException("named capturing group is missing trailing '}'");
+                    }
+                    String name = by.substring(i + 1, close);
+                    group = pattern.groupOf(name);
+                    if (group < 0) {
+                        throw new IllegalArgumentException("No group with name {" + name + "}");
+                    }
+                    i = close;
+                } else if (i == by.length() || !Character.isDigit(by.charAt(i))) {
                     throw new IllegalArgumentException("Illegal group reference");
-                }
-                int group = by.charAt(i) - '0';
-                while (i + 1 < by.length() && Character.isDigit(by.charAt(i + 1))
-                        && 10 * group + by.charAt(i + 1) - '0' <= pattern.groups) {
-                    i++;
-                    group = 10 * group + by.charAt(i) - '0';
+                } else {
+                    group = by.charAt(i) - '0';
+                    while (i + 1 < by.length() && Character.isDigit(by.charAt(i + 1))
+                            && 10 * group + by.charAt(i + 1) - '0' <= pattern.groups) {
+                        i++;
+                        group = 10 * group + by.charAt(i) - '0';
+                    }
                 }
                 String found = group(group);
                 out.append(found == null ? "" : found);

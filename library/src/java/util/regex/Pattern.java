@@ -1,14 +1,21 @@
 package java.util.regex;
 
 import java.util.ArrayList;
+import java.util.HashMap;
 import java.util.List;
+import java.util.Map;
 
 /**
- * Regular expressions: alternatives, groups, classes, lookahead, back references, ^ $ \b \B, repetitions of each kind, \Q..\E, and the flag
- * CASE_INSENSITIVE for ASCII. Matched by going back. What a pattern has beyond that is a PatternSyntaxException.
+ * Regular expressions: alternatives, groups, also with names, classes, lookahead, back references, ^ $ \b \B, repetitions of each kind,
+ * \Q..\E, and the flags CASE_INSENSITIVE, for ASCII, MULTILINE and DOTALL. Matched by going back. What a pattern has beyond that is a
+ * PatternSyntaxException.
  */
 public final class Pattern implements java.io.Serializable {
     public static final int CASE_INSENSITIVE = 2;
+    public static final int MULTILINE = 8;
+    public static final int DOTALL = 32;
+
+    private static final int KNOWN_FLAGS = CASE_INSENSITIVE | MULTILINE | DOTALL;
 
     /** The last ones that the methods of java.lang.String asked for: no memory comes back. */
     private static final Pattern[] KEPT = new Pattern[8];
@@ -19,6 +26,8 @@ public final class Pattern implements java.io.Serializable {
     private final Node root;
     private int at;
     int groups;
+    /** The names of groups, each behind its group's number; null where there are none. */
+    private Map<String, Integer> names;
 
     private Pattern(String pattern, int flags) {
         this.pattern = pattern;
@@ -36,8 +45,8 @@ public final class Pattern implements java.io.Serializable {
     }
 
     public static Pattern compile(String pattern, int flags) {
-        if ((flags & ~CASE_INSENSITIVE) != 0) {
-            throw new IllegalArgumentException("Unknown flag 0x" + Integer.toHexString(flags & ~CASE_INSENSITIVE));
+        if ((flags & ~KNOWN_FLAGS) != 0) {
+            throw new IllegalArgumentException("Unknown flag 0x" + Integer.toHexString(flags & ~KNOWN_FLAGS));
         }
         return new Pattern(pattern, flags);
     }
@@ -277,16 +286,15 @@ public final class Pattern implements java.io.Serializable {
             case '.':
                 n = new Node(Node.SET);
                 n.set = new CharSet(true, false);
-                n.set.add('\n', '\n');
-                n.set.add('\r', '\r');
-                n.set.add(0x85, 0x85);
-                n.set.add(0x2028, 0x2029);
+                if ((flags & DOTALL) == 0) {
+                    n.set.addAll("\n\n\r\r\u0085\u0085\u2028\u2029");
+                }
                 break;
             case '^':
-                n = new Node(Node.BEGIN);
+                n = new Node((flags & MULTILINE) == 0 ? Node.BEGIN : Node.LINE_BEGIN);
                 break;
             case '$':
-                n = new Node(Node.END);
+                n = new Node((flags & MULTILINE) == 0 ? Node.END : Node.LINE_END);
                 break;
             case '*':
             case '+':
@@ -312,6 +320,17 @@ public final class Pattern implements java.io.Serializable {
         } else if (c >= '1' && c <= '9') {
             n = new Node(Node.BACK);
             n.least = 2 * (c - '0');
+        } else if (c == 'k') {
+            if (!take("<")) {
+                throw wrong("\\k is not followed by '<' for named capturing group");
+            }
+            String name = name();
+            int group = groupOf(name);
+            if (group < 0) {
+                throw wrong("named capturing group <" + name + "> does not exist");
+            }
+            n = new Node(Node.BACK);
+            n.least = 2 * group;
         } else {
             at -= 2;
             n = new Node(Node.SET);
@@ -334,10 +353,20 @@ public final class Pattern implements java.io.Serializable {
             part = inside(Node.NOT_AHEAD, alternatives());
         } else if (take("?>")) {
             part = inside(Node.ATOMIC, alternatives());
-        } else if (more('?')) {
+        } else if (pattern.startsWith("?<=", at) || pattern.startsWith("?<!", at) || more('?') && !pattern.startsWith("?<", at)) {
             throw wrong("Group of a kind that this library lacks");
         } else {
             groups++;
+            if (take("?<")) {
+                String name = name();
+                if (groupOf(name) >= 0) {
+                    throw wrong("Named capturing group <" + name + "> is already defined");
+                }
+                if (names == null) {
+                    names = new HashMap<String, Integer>();
+                }
+                names.put(name, groups);
+            }
             Node open = new Node(Node.GROUP);
             Node close = new Node(Node.GROUP);
             open.least = 2 * groups;
@@ -351,6 +380,27 @@ public final class Pattern implements java.io.Serializable {
             throw wrong("Unclosed group");
         }
         return part;
+    }
+
+    /** The name of a group, from behind its bracket. */
+    private String name() {
+        int from = at;
+        while (at < pattern.length() && Character.isLetterOrDigit(pattern.charAt(at)) && (at > from || !Character.isDigit(pattern.charAt(at)))) {
+            at++;
+        }
+        if (at == from) {
+            throw wrong("capturing group name does not start with a Latin letter");
+        }
+        if (!take(">")) {
+            throw wrong("named capturing group is missing trailing '>'");
+        }
+        return pattern.substring(from, at - 1);
+    }
+
+    /** The number of a group with a name, or -1. */
+    int groupOf(String name) {
+        Integer group = names == null ? null : names.get(name);
+        return group == null ? -1 : group;
     }
 
     /** A class, from behind its bracket. */
@@ -553,6 +603,8 @@ public final class Pattern implements java.io.Serializable {
         static final int AHEAD = 15;
         static final int NOT_AHEAD = 16;
         static final int ATOMIC = 17;
+        static final int LINE_BEGIN = 18;
+        static final int LINE_END = 19;
 
         final int kind;
         Node next;
@@ -600,6 +652,10 @@ public final class Pattern implements java.io.Serializable {
                     return isEnd(run.text, i) && next.match(run, i, rounds);
                 case END_OF_ALL:
                     return i == run.text.length() && next.match(run, i, rounds);
+                case LINE_BEGIN:
+                    return i < run.text.length() && (i == 0 || isBreak(run.text, i - 1, i)) && next.match(run, i, rounds);
+                case LINE_END:
+                    return (i == run.text.length() || isBreak(run.text, i, i)) && next.match(run, i, rounds);
                 case BOUNDARY:
                     return isBoundary(run.text, i) && next.match(run, i, rounds);
                 case NO_BOUNDARY:
@@ -683,6 +739,13 @@ public final class Pattern implements java.io.Serializable {
             int left = text.length() - i;
             return left == 0 || left == 1 && (text.charAt(i) == '\n' && (i == 0 || text.charAt(i - 1) != '\r') || text.charAt(i) == '\r')
                 || left == 2 && text.charAt(i) == '\r' && text.charAt(i + 1) == '\n';
+        }
+
+        /** Whether a char breaks lines, and the place isn't between CR and LF. */
+        private static boolean isBreak(String text, int i, int place) {
+            char c = text.charAt(i);
+            return (c == '\n' || c == '\r' || c == 0x85 || (c | 1) == 0x2029)
+                && !(place > 0 && text.charAt(place) == '\n' && text.charAt(place - 1) == '\r');
         }
 
         private static boolean isWord(String text, int i) {
