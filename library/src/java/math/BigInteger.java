@@ -34,6 +34,55 @@ public class BigInteger extends Number implements Comparable<BigInteger> {
         this(text.startsWith("-") ? -1 : 1, parse(text, text.startsWith("-") || text.startsWith("+") ? 1 : 0, radix));
     }
 
+    public BigInteger(byte[] bytes) {
+        this(bytes.length > 0 && bytes[0] < 0 ? -1 : 1, read(bytes, true));
+    }
+
+    public BigInteger(int sign, byte[] bytes) {
+        this(sign, checked(sign, read(bytes, false)));
+    }
+
+    private static int[] checked(int sign, int[] digits) {
+        if (sign < -1 || sign > 1) {
+            throw new NumberFormatException("Invalid signum value");
+        }
+        for (int k = 0; sign == 0 && k < digits.length; k++) {
+            if (digits[k] != 0) {
+                throw new NumberFormatException("signum-magnitude mismatch");
+            }
+        }
+        return digits;
+    }
+
+    /** The size that bytes spell, the greatest first: of two's complement where they are signed. */
+    private static int[] read(byte[] bytes, boolean signed) {
+        int n = bytes.length;
+        if (signed && n == 0) {
+            throw new NumberFormatException("Zero length BigInteger");
+        }
+        boolean below = signed && bytes[0] < 0;
+        int[] all = new int[n / 4 + 1];
+        int carry = below ? 1 : 0;
+        for (int k = 0; k < n; k++) {
+            int b = bytes[n - 1 - k] & 0xff;
+            b = below ? (b ^ 0xff) + carry : b;
+            carry = b >>> 8;
+            all[k / 4] |= (b & 0xff) << 8 * (k & 3);
+        }
+        return all;
+    }
+
+    public byte[] toByteArray() {
+        byte[] bytes = new byte[bitLength() / 8 + 1];
+        for (int k = 0; k < bytes.length; k += 4) {
+            int word = bits(k / 4);
+            for (int j = 0; j < 4 && k + j < bytes.length; j++) {
+                bytes[bytes.length - 1 - k - j] = (byte) (word >> 8 * j);
+            }
+        }
+        return bytes;
+    }
+
     public BigInteger(int bits, Random random) {
         this(1, drawn(bits, random));
     }
