@@ -40,11 +40,11 @@ public class Throwable implements java.io.Serializable {
     }
 
     public Throwable initCause(Throwable cause) {
-        if (cause == this) {
-            throw new IllegalArgumentException("Self-causation not permitted");
-        }
         if (Causes.has(this)) {
-            throw new IllegalStateException("Can't overwrite cause");
+            throw new IllegalStateException("Can't overwrite cause with ".concat(cause == null ? "a null" : cause.toString()), this);
+        }
+        if (cause == this) {
+            throw new IllegalArgumentException("Self-causation not permitted", this);
         }
         Causes.put(this, cause);
         return this;
