@@ -62,9 +62,16 @@ public abstract class AbstractList<E> extends AbstractCollection<E> implements L
     }
 
     protected void removeRange(int from, int to) {
-        for (int i = to - 1; i >= from; i--) {
-            remove(i);
+        ListIterator<E> walk = listIterator(from);
+        for (int i = from; i < to; i++) {
+            walk.next();
+            walk.remove();
         }
+    }
+
+    /** The size, also where a part can't be used any more. */
+    int count() {
+        return size();
     }
 
     public Iterator<E> iterator() {
@@ -136,12 +143,12 @@ public abstract class AbstractList<E> extends AbstractCollection<E> implements L
         }
 
         public boolean hasNext() {
-            return at != size();
+            return at != count();
         }
 
         public E next() {
             check();
-            if (at >= size()) {
+            if (at >= count()) {
                 throw new NoSuchElementException();
             }
             last = at;
@@ -199,6 +206,7 @@ public abstract class AbstractList<E> extends AbstractCollection<E> implements L
         }
     }
 
+    /** A part, whose changes are as many as those of the whole, or it was changed from elsewhere. */
     private static final class SubList<E> extends AbstractList<E> {
         private final AbstractList<E> of;
         private final int from;
@@ -208,40 +216,84 @@ public abstract class AbstractList<E> extends AbstractCollection<E> implements L
             this.of = of;
             this.from = from;
             this.count = count;
+            modCount = of.modCount;
         }
 
-        private void check(int index, int limit) {
-            if (index < 0 || index >= limit) {
-                throw new IndexOutOfBoundsException("Index " + index + " out of bounds for length " + count);
+        private void check() {
+            if (of.modCount != modCount) {
+                throw new ConcurrentModificationException();
             }
         }
 
+        private void check(int index) {
+            if (index < 0 || index >= count) {
+                throw new IndexOutOfBoundsException("Index " + index + " out of bounds for length " + count);
+            }
+            check();
+        }
+
+        private void checkToAdd(int index) {
+            if (index < 0 || index > count) {
+                throw new IndexOutOfBoundsException("Index: " + index + ", Size: " + count);
+            }
+            check();
+        }
+
+        private void changed(int more) {
+            count += more;
+            modCount = of.modCount;
+        }
+
         public int size() {
+            check();
+            return count;
+        }
+
+        int count() {
             return count;
         }
 
         public E get(int index) {
-            check(index, count);
+            check(index);
             return of.get(from + index);
         }
 
         public E set(int index, E e) {
-            check(index, count);
+            check(index);
             return of.set(from + index, e);
         }
 
         public void add(int index, E e) {
-            check(index, count + 1);
+            checkToAdd(index);
             of.add(from + index, e);
-            count++;
-            modCount++;
+            changed(1);
+        }
+
+        public boolean addAll(Collection<? extends E> c) {
+            return addAll(count, c);
+        }
+
+        public boolean addAll(int index, Collection<? extends E> c) {
+            checkToAdd(index);
+            int more = c.size();
+            if (more > 0) {
+                of.addAll(from + index, c);
+                changed(more);
+            }
+            return more > 0;
+        }
+
+        protected void removeRange(int begin, int end) {
+            check();
+            of.removeRange(from + begin, from + end);
+            changed(begin - end);
         }
 
         public E remove(int index) {
-            check(index, count);
-            count--;
-            modCount++;
-            return of.remove(from + index);
+            check(index);
+            E old = of.remove(from + index);
+            changed(-1);
+            return old;
         }
     }
 }

@@ -1,7 +1,7 @@
 package java.util;
 
 public class Collections {
-    public static final List EMPTY_LIST = new FixedList<Object>(new ArrayList<Object>(0));
+    public static final List EMPTY_LIST = new Copies<Object>(0, null);
     public static final Set EMPTY_SET = new FixedSet<Object>(new HashSet<Object>());
     public static final Map EMPTY_MAP = new FixedMap<Object, Object>(new HashMap<Object, Object>());
 
@@ -269,6 +269,14 @@ public class Collections {
         return new FixedMap<K, V>(map);
     }
 
+    public static <T> SortedSet<T> unmodifiableSortedSet(SortedSet<T> set) {
+        return new FixedSortedSet<T>(set);
+    }
+
+    public static <K, V> SortedMap<K, V> unmodifiableSortedMap(SortedMap<K, ? extends V> map) {
+        return new FixedSortedMap<K, V>((SortedMap<K, V>) map);
+    }
+
     // ---- for several threads: there is one
 
     public static <T> Collection<T> synchronizedCollection(Collection<T> c) {
@@ -311,6 +319,72 @@ public class Collections {
         }
     }
 
+    private static final class FixedSortedSet<T> extends FixedSet<T> implements SortedSet<T> {
+        private final SortedSet<T> sorted;
+
+        FixedSortedSet(SortedSet<T> of) {
+            super(of);
+            sorted = of;
+        }
+
+        public Comparator<? super T> comparator() {
+            return sorted.comparator();
+        }
+
+        public T first() {
+            return sorted.first();
+        }
+
+        public T last() {
+            return sorted.last();
+        }
+
+        public SortedSet<T> headSet(T to) {
+            return new FixedSortedSet<T>(sorted.headSet(to));
+        }
+
+        public SortedSet<T> tailSet(T from) {
+            return new FixedSortedSet<T>(sorted.tailSet(from));
+        }
+
+        public SortedSet<T> subSet(T from, T to) {
+            return new FixedSortedSet<T>(sorted.subSet(from, to));
+        }
+    }
+
+    private static final class FixedSortedMap<K, V> extends FixedMap<K, V> implements SortedMap<K, V> {
+        private final SortedMap<K, V> sorted;
+
+        FixedSortedMap(SortedMap<K, V> of) {
+            super(of);
+            sorted = of;
+        }
+
+        public Comparator<? super K> comparator() {
+            return sorted.comparator();
+        }
+
+        public K firstKey() {
+            return sorted.firstKey();
+        }
+
+        public K lastKey() {
+            return sorted.lastKey();
+        }
+
+        public SortedMap<K, V> headMap(K to) {
+            return new FixedSortedMap<K, V>(sorted.headMap(to));
+        }
+
+        public SortedMap<K, V> tailMap(K from) {
+            return new FixedSortedMap<K, V>(sorted.tailMap(from));
+        }
+
+        public SortedMap<K, V> subMap(K from, K to) {
+            return new FixedSortedMap<K, V>(sorted.subMap(from, to));
+        }
+    }
+
     private static final class Copies<T> extends AbstractList<T> implements RandomAccess {
         private final int count;
         private final T item;
@@ -326,9 +400,15 @@ public class Collections {
 
         public T get(int index) {
             if (index < 0 || index >= count) {
-                throw new IndexOutOfBoundsException("Index: " + index + ", Size: " + count);
+                throw new IndexOutOfBoundsException("Index: " + index + (count == 0 ? "" : ", Size: " + count));
             }
             return item;
+        }
+
+        public void sort(Comparator<? super T> order) {
+            if (count > 1) {
+                super.sort(order);
+            }
         }
     }
 
@@ -396,7 +476,7 @@ public class Collections {
         }
     }
 
-    private static final class FixedSet<T> extends Fixed<T> implements Set<T> {
+    private static class FixedSet<T> extends Fixed<T> implements Set<T> {
         FixedSet(Set<? extends T> of) {
             super(of);
         }
@@ -446,7 +526,7 @@ public class Collections {
         }
     }
 
-    private static final class FixedMap<K, V> extends EntryMap<K, V> {
+    private static class FixedMap<K, V> extends EntryMap<K, V> {
         private final Map<? extends K, ? extends V> of;
 
         FixedMap(Map<? extends K, ? extends V> of) {

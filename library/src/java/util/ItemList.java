@@ -34,10 +34,19 @@ abstract class ItemList<E> extends AbstractList<E> implements RandomAccess, Clon
     public void trimToSize() {
     }
 
+    /** How many items there is room for, where there was for some. */
+    int larger(int room) {
+        return room == 0 ? 10 : room + (room >> 1) + 1;
+    }
+
+    final int room() {
+        return items.length;
+    }
+
     private void reserve(int more) {
         int need = count + more;
         if (need > items.length) {
-            Object[] larger = new Object[Math.max(need, items.length == 0 ? 10 : items.length + (items.length >> 1) + 1)];
+            Object[] larger = new Object[Math.max(need, larger(items.length))];
             System.arraycopy(items, 0, larger, 0, count);
             items = larger;
         }

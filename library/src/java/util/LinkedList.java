@@ -1,6 +1,6 @@
 package java.util;
 
-public class LinkedList<E> extends AbstractList<E> implements Deque<E>, Cloneable, java.io.Serializable {
+public class LinkedList<E> extends AbstractSequentialList<E> implements Deque<E>, Cloneable, java.io.Serializable {
     private Node<E> first;
     private Node<E> last;
     private int count;
@@ -222,12 +222,13 @@ public class LinkedList<E> extends AbstractList<E> implements Deque<E>, Cloneabl
         return peekFirst();
     }
 
-    public Iterator<E> iterator() {
-        return new Walk(0);
+    public boolean addAll(Collection<? extends E> c) {
+        return addAll(count, c);
     }
 
-    public ListIterator<E> listIterator() {
-        return new Walk(0);
+    /** What is added may be the list itself. */
+    public boolean addAll(int index, Collection<? extends E> c) {
+        return super.addAll(index, (List<E>) Arrays.asList(c.toArray()));
     }
 
     public ListIterator<E> listIterator(int index) {

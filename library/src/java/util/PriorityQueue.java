@@ -2,7 +2,7 @@ package java.util;
 
 import java.util.function.Predicate;
 
-public class PriorityQueue<E> extends AbstractCollection<E> implements Queue<E>, java.io.Serializable {
+public class PriorityQueue<E> extends AbstractQueue<E> implements java.io.Serializable {
     private Object[] heap;
     private int count;
     private int changes;
@@ -114,22 +114,6 @@ public class PriorityQueue<E> extends AbstractCollection<E> implements Queue<E>,
         heap[count] = null;
         if (count > 0) {
             down(0, last);
-        }
-        return top;
-    }
-
-    public E remove() {
-        E top = poll();
-        if (top == null) {
-            throw new NoSuchElementException();
-        }
-        return top;
-    }
-
-    public E element() {
-        E top = peek();
-        if (top == null) {
-            throw new NoSuchElementException();
         }
         return top;
     }

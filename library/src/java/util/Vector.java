@@ -1,7 +1,11 @@
 package java.util;
 
 public class Vector<E> extends ItemList<E> implements List<E>, RandomAccess, Cloneable, java.io.Serializable {
+    /** How much room is added at a time; 0 where it is doubled. */
+    private int more;
+
     public Vector() {
+        super(10);
     }
 
     public Vector(int capacity) {
@@ -113,6 +117,11 @@ public class Vector<E> extends ItemList<E> implements List<E>, RandomAccess, Clo
 
     public Vector(int capacity, int more) {
         super(capacity);
+        this.more = more;
+    }
+
+    int larger(int room) {
+        return more > 0 ? room + more : 2 * room;
     }
 
     public void setElementAt(E e, int index) {
@@ -132,7 +141,7 @@ public class Vector<E> extends ItemList<E> implements List<E>, RandomAccess, Clo
     }
 
     public int capacity() {
-        return Math.max(10, size());
+        return room();
     }
 
     public Object clone() {
