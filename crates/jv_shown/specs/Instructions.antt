@@ -92,7 +92,7 @@ computation_text _ = []
 
 abbrev pub operand_text : List Entry → ℕ → Instruction → List ℕ
 operand_text pool pc (insns.Compute computation) = computation_text computation
-operand_text pool pc (insns.PoolConstant i form) = codes " " ++ index_text i
+operand_text pool pc (insns.PoolConstant i form) = codes " " ++ class_text pool i
 operand_text pool pc (insns.PoolLongConstant i) = codes " " ++ index_text i
 operand_text pool pc (insns.Load kind n form) = local_text n form
 operand_text pool pc (insns.Store kind n form) = local_text n form

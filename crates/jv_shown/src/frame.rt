@@ -101,8 +101,7 @@ impl fmt::Display for ShownBrackets {
     ghost output = { λ brackets. Some (brackets_text brackets.0) };
 
     fn fmt<W: fmt::Write>(&self, f: &mut fmt::Formatter<W>) -> fmt::Result {
-        for depth in 0..self.0 {
-            let _depth = depth;
+        for _ in 0..self.0 {
             f.write_str("[]")?;
         }
         Ok(())

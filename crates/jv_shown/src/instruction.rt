@@ -42,7 +42,10 @@ impl fmt::Display for ShownOperand<'_, '_> {
                 let shown = ShownComputation(computation);
                 write!(f, "{shown}")
             }
-            Insn::PoolConstant(index, _) => write!(f, " #{index}"),
+            Insn::PoolConstant(index, _) => {
+                let class = ShownClass { pool, index };
+                write!(f, " {class}")
+            }
             Insn::PoolLongConstant(index) => write!(f, " #{index}"),
             Insn::Load(_, local, form) => {
                 let shown = ShownLocal(local, form);
