@@ -8,6 +8,7 @@ use Rattle.std.proofs.lemmas.List.Elements.{All-nil, All-cons, All-head, All-tai
 use Rattle.std.specs.Option.{IsSomeAnd}
 use Rattle.std.proofs.lemmas.Bool.{and_parts, and_from}
 use Rattle.jv_format.specs.Format.{◌>>=◌}
+use Rattle.jv_text.specs.Text.{IsText}
 use Rattle.jv_text.specs.Descriptor.{MethodDescriptor}
 use Rattle.jv_text.proofs.Methods.{one_method}
 use Rattle.jv_pool.specs.declared.facts.TextFacts.{TextFacts}
@@ -16,7 +17,7 @@ use Rattle.jv_pool.specs.Rules.{IsMethodMember, NamesMethod}
 use Rattle.jv_pool.specs.Facts.{AreFacts, AreMethodFacts}
 use Rattle.jv_pool.specs.Constants.{Entry, takes_two, entries_of, table_of, pool_count, usable, at_index, utf8_at, utf8_in, name_and_descriptor}
 use Rattle.jv_pool.specs.Inside.Alike.{IsAlike, IsInOrder}
-use Rattle.jv_pool.specs.Inside.Known.{IsKnown, known_in, AllKnown, KnownBelow, place_alike, IsAdded, MethodKnown, IsNamedFor, special_keeps_rules, At}
+use Rattle.jv_pool.specs.Inside.Known.{IsKnown, known_in, AllKnown, KnownBelow, place_alike, IsAdded, IsNewText, AreTexts, AreTextsBelow, MethodKnown, IsNamedFor, special_keeps_rules, At}
 
 -- ---- lists
 
@@ -126,23 +127,51 @@ joined (Some t) None facts more place there h =
     known_last : (facts : List TextFacts) (new : TextFacts) → known_in (facts ++ new ∷ []) (length facts + 1) ≡ Some new
     known_last facts new = let next : length facts + 1 ≡ suc (length facts) = omega arith in ap (known_in (facts ++ new ∷ [])) next ∙ get_last facts new (length facts) refl
 
--- the place of the first text alike is right for this text too
-placed_before : (pool : List Entry) (alike : List ℕ) (i : ℕ) (facts : List TextFacts) (places : List ℕ) → IsInOrder pool alike → KnownBelow pool i facts places
-    → (t : List ℕ) (p : ℕ) → utf8_at pool i ≡ Some t → place_alike alike places i ≡ Some p → IsPlaced t facts p
-placed_before pool alike i facts places order so_far t p here e = by_first (slice_get alike i) refl e
+-- where the first text alike stands at a lower index
+record Before (pool : List Entry) (places : List ℕ) (text : List ℕ) (place : ℕ) : Type 0 where
+  first : ℕ
+  below : first < length places
+  at : get_or places first 0 ≡ place
+  same : utf8_at pool first ≡ Some text
+
+alike_before : (pool : List Entry) (alike : List ℕ) (i : ℕ) (places : List ℕ) → IsInOrder pool alike → (t : List ℕ) (p : ℕ) → utf8_at pool i ≡ Some t
+    → place_alike alike places i ≡ Some p → Before pool places t p
+alike_before pool alike i places order t p here e = by_first (slice_get alike i) refl e
   where
-    by_first : (o : Option ℕ) → slice_get alike i ≡ o → (o >>= slice_get places) ≡ Some p → IsPlaced t facts p
+    by_first : (o : Option ℕ) → slice_get alike i ≡ o → (o >>= slice_get places) ≡ Some p → Before pool places t p
     by_first None first found = absurd cc
     by_first (Some f) first found =
         let there : IsAlike pool i (utf8_at pool i) (Some f) = subst (λ (o : Option ℕ). IsAlike pool i (utf8_at pool i) o) first (order i) in
         let is_alike : IsAlike pool i (Some t) (Some f) = subst (λ (o : Option (List ℕ)). IsAlike pool i o (Some f)) here there in
-        let below : f < length places = there_below places f p found in
-        let at : get_or places f 0 ≡ p = get_there places f p found in
-        let same : utf8_at pool f ≡ Some t = is_alike.same ∙ here in (
-          omega (arith, at, so_far.within f),
-          subst (λ (o : Option (List ℕ)). IsKnown o (known_in facts p)) same
-              (subst (λ (k : ℕ). IsKnown (utf8_at pool f) (known_in facts k)) at (so_far.known f (omega (arith, below, so_far.long)))),
-        )
+        record { first = f; below = there_below places f p found; at = get_there places f p found; same = is_alike.same ∙ here }
+
+-- the place of the first text alike is right for this text too
+placed_before : (pool : List Entry) (alike : List ℕ) (i : ℕ) (facts : List TextFacts) (places : List ℕ) → IsInOrder pool alike → KnownBelow pool i facts places
+    → (t : List ℕ) (p : ℕ) → utf8_at pool i ≡ Some t → place_alike alike places i ≡ Some p → IsPlaced t facts p
+placed_before pool alike i facts places order so_far t p here e =
+    let b = alike_before pool alike i places order t p here e in (
+      omega (arith, b.at, so_far.within b.first),
+      subst (λ (o : Option (List ℕ)). IsKnown o (known_in facts p)) b.same
+          (subst (λ (k : ℕ). IsKnown (utf8_at pool b.first) (known_in facts k)) b.at (so_far.known b.first (omega (arith, b.below, so_far.long)))),
+    )
+
+-- and with those before it is a text
+pub texts_more : (pool : List Entry) (alike : List ℕ) (i : ℕ) (facts : List TextFacts) (places : List ℕ) → IsInOrder pool alike → KnownBelow pool i facts places
+    → IsNewText (utf8_at pool i) (place_alike alike places i) → AreTextsBelow pool i → AreTextsBelow pool (i + 1)
+texts_more pool alike i facts places order so_far new texts =
+    below_or_here (λ k. (t : List ℕ) → utf8_at pool k ≡ Some t → IsText t) i texts
+    (λ t here. by_place t here (place_alike alike places i) refl)
+  where
+    by_place : (t : List ℕ) → utf8_at pool i ≡ Some t → (o : Option ℕ) → place_alike alike places i ≡ o → IsText t
+    by_place t here None e = subst (λ (o : Option ℕ). IsNewText (Some t) o) e (subst (λ (o : Option (List ℕ)). IsNewText o (place_alike alike places i)) here new)
+    by_place t here (Some p) e =
+        let b = alike_before pool alike i places order t p here e in
+        texts b.first (omega (arith, b.below, so_far.long)) t b.same
+
+pub texts_all : (pool : List Entry) (i : ℕ) → pool_count pool ≤ i → AreTextsBelow pool i → AreTexts pool
+texts_all pool i le texts =
+    below_or_past (λ k. (t : List ℕ) → utf8_at pool k ≡ Some t → IsText t) i texts
+    (λ k past t here. let none : utf8_at pool k ≡ None = past_texts pool k (omega arith) in absurd cc)
 
 pub KnownBelow-start : (pool : List Entry) → KnownBelow pool 0 [] []
 KnownBelow-start pool = record { long = refl; few = omega arith; within = λ k. omega arith; known = λ k lt. absurd (omega arith) }

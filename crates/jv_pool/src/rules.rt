@@ -1,9 +1,10 @@
 //! The rules that each constant of a pool keeps (JVMS 4.4).
 
-ghost use Rattle.std.specs.Prelude.{◌≡◌, ◌↔◌, false, IsSome, IsTrue};
+ghost use Rattle.std.specs.Prelude.{◌≡◌, ◌↔◌, false, Some, IsSome, IsTrue};
 ghost use Rattle.std.specs.List.{All};
 ghost use Rattle.std.specs.Option.{IsSomeAnd};
 ghost use Rattle.jv_pool.specs.Constants.{at_index, utf8_at, class_name_at, named_at, name_and_type_at};
+ghost use Rattle.jv_text.specs.Text.{IsText};
 ghost use Rattle.jv_text.specs.Name.{is_method_name};
 ghost use Rattle.jv_pool.specs.Rules.{IsUnqualified, IsFieldDescriptor, IsDescriptor, NamesField, NamesMethod, NamesInterfaceMethod, IsClassIn, IsMemberIn, IsNameAndTypeIn, KeepsRules};
 ghost use Rattle.jv_text.specs.Name.{begins_with};
@@ -16,6 +17,14 @@ use crate::known::Known;
 use jv_text::{begins_with, is_init, is_text};
 
 // ---- texts at indices
+
+/// Whether the text at an index is one (4.4.7), of which it is known mostly of all texts.
+fn is_text_at(known: &Known<'_>, index: u16, text: &[u8]) -> bool
+    requires { utf8_at known.now index ≡ Some text.now }
+    ensures { IsTrue result ↔ IsText text.now }
+{
+    known.are_texts() || is_text(text)
+}
 
 fn is_utf8_at(known: &Known<'_>, index: u16) -> bool
     ensures { IsTrue result ↔ IsSome (utf8_at known.now index) }
@@ -213,12 +222,13 @@ fn is_name_and_type(known: &Known<'_>, name: u16, descriptor: u16) -> bool
     is_unqualified_at(known, name) && is_descriptor_at(known, descriptor)
 }
 
-/// Whether the constant keeps the rules of its kind.
-fn keeps_rules(known: &Known<'_>, constant: Constant<&[u8]>) -> bool
+/// Whether the constant at an index keeps the rules of its kind.
+fn keeps_rules(known: &Known<'_>, index: u16, constant: Constant<&[u8]>) -> bool
+    requires { at_index known.now index ≡ Some (seen constant) }
     ensures { IsTrue result ↔ KeepsRules known.now (seen constant.entry) }
 {
     match constant {
-        Constant::Utf8(text) => is_text(text),
+        Constant::Utf8(text) => is_text_at(known, index, text),
         Constant::Integer(_) => true,
         Constant::Float(_) => true,
         Constant::Long(_, _) => true,
@@ -242,7 +252,7 @@ pub fn keeps_rules_at(known: &Known<'_>, index: u16) -> bool
     ensures { IsTrue result ↔ IsKept known.now (at_index known.now index) }
 {
     match known.table().constant(index) {
-        Some(constant) => keeps_rules(known, constant),
+        Some(constant) => keeps_rules(known, index, constant),
         None => true,
     }
 }

@@ -1,15 +1,18 @@
 //! What is known of a text (JVMS 4.2, 4.3, 4.4.1, 4.7.2).
 
-ghost use Rattle.std.specs.Prelude.{◌≡◌, ◌↔◌, IsTrue, IsSome};
+ghost use Rattle.std.specs.Prelude.{◌≡◌, ◌↔◌, ℕ, List, IsTrue};
+ghost use Rattle.jv_text.specs.declared.descriptor.FieldTypeOf.{FieldTypeOf};
+ghost use Rattle.jv_text.specs.Text.{IsText};
+ghost use Rattle.jv_text.specs.Descriptor.{IsField};
 ghost use Rattle.jv_text.specs.Seen.{seen_element, seen_field_type};
+ghost use Rattle.jv_text.specs.Name.{is_class_name};
 ghost use Rattle.jv_pool.specs.Rules.{NamesClass, IsFieldDescriptor};
-ghost use Rattle.jv_text.specs.Name.{begins_with, is_array_name, is_init};
 ghost use Rattle.jv_pool.specs.Facts.{value_of_base, value_of_element, value_of_type, IsFieldKnown, IsMethodKnown, AreFacts};
 
 use crate::facts::{ConstantValueKind, FieldFacts, MethodFacts, TextFacts};
 use jv_text::{
-    Base, Element, FieldType, field_type, is_array_name, is_class_name, is_floating,
-    is_member_name, is_method_name, method_shape,
+    Base, Element, FieldType, begins_with, field_type, is_array_name, is_floating, method_shape,
+    text_kinds,
 };
 
 fn value_of_base(base: Base) -> ConstantValueKind
@@ -48,9 +51,21 @@ fn value_of_type(t: FieldType<'_>) -> ConstantValueKind
     }
 }
 
-fn field_facts(text: &[u8]) -> Option<FieldFacts>
+/// Whether the text can be no field descriptor: none begins with a parenthesis, and one that is a class name is a letter.
+fn is_no_field(text: &[u8], class_name: bool) -> bool
+    requires { class_name ≡ is_class_name text.now }
+    ensures { IsTrue result → (t : FieldTypeOf (List ℕ)) → IsField text.now t → ⊥ }
+{
+    begins_with(b'(', text) || (class_name && text.len() > 1)
+}
+
+fn field_facts(text: &[u8], class_name: bool) -> Option<FieldFacts>
+    requires { class_name ≡ is_class_name text.now }
     ensures { IsFieldKnown text.now result }
 {
+    if is_no_field(text, class_name) {
+        return None;
+    }
     match field_type(text) {
         Ok(t) => Some(FieldFacts {
             value: value_of_type(t),
@@ -63,6 +78,9 @@ fn field_facts(text: &[u8]) -> Option<FieldFacts>
 fn method_facts(text: &[u8]) -> Option<MethodFacts>
     ensures { IsMethodKnown text.now result }
 {
+    if !begins_with(b'(', text) {
+        return None;
+    }
     match method_shape(text) {
         Ok(shape) => Some(MethodFacts {
             slots: shape.slots,
@@ -73,25 +91,28 @@ fn method_facts(text: &[u8]) -> Option<MethodFacts>
     }
 }
 
-/// Whether a Class constant can name the text (4.4.1), where it is known whether it is a field
-/// descriptor.
-fn names_class(text: &[u8], described: bool) -> bool
-    requires { IsTrue described ↔ IsFieldDescriptor text.now }
+/// Whether a Class constant can name the text (4.4.1), where it is known whether it is a class name and a field descriptor.
+fn names_class(text: &[u8], class_name: bool, described: bool) -> bool
+    requires class { class_name ≡ is_class_name text.now }
+    requires described { IsTrue described ↔ IsFieldDescriptor text.now }
     ensures { IsTrue result ↔ NamesClass text.now }
 {
-    is_class_name(text) || (is_array_name(text) && described)
+    class_name || (is_array_name(text) && described)
 }
 
-/// What is known of the text. Each kind of name and descriptor is looked for once.
-pub(crate) fn facts_of(text: &[u8]) -> TextFacts
-    ensures { AreFacts text.now result }
+/// What is known of the text, and whether it is one (4.4.7). Names are told by one pass over it.
+pub(crate) fn facts_of(text: &[u8]) -> (TextFacts, bool)
+    ensures facts { AreFacts text.now result.0 }
+    ensures text { IsTrue result.1 ↔ IsText text.now }
 {
-    let field = field_facts(text);
-    TextFacts {
-        names_class: names_class(text, field.is_some()),
-        unqualified: is_member_name(text),
-        method_name: is_method_name(text),
+    let kinds = text_kinds(text);
+    let field = field_facts(text, kinds.class_name);
+    let facts = TextFacts {
+        names_class: names_class(text, kinds.class_name, field.is_some()),
+        unqualified: kinds.member_name,
+        method_name: kinds.method_name,
         field,
         method: method_facts(text),
-    }
+    };
+    (facts, kinds.text)
 }

@@ -1,16 +1,19 @@
 -- No field descriptor begins another one, so types are read from the front.
-use Rattle.std.proofs.Common.{◌≡◌, ℕ, zero, suc, ◌≤◌, List, [], ◌∷◌, ◌++◌, length, drop, get_or, refl, sym, ap, ◌∙◌, append_assoc, arith, Option, Some, None}
-use Rattle.std.specs.Prelude.{◌≢◌, IsTrue, nat_le, replicate, ◌==◌, if◌then◌else◌}
-use Rattle.std.proofs.lemmas.Bool.{and_parts}
+use Rattle.std.proofs.Common.{◌≡◌, ℕ, zero, suc, ◌≤◌, List, [], ◌∷◌, ◌++◌, length, drop, get_or, refl, sym, ap, subst, ◌∙◌, append_assoc, arith, Option, Some, None}
+use Rattle.std.specs.Prelude.{◌≢◌, IsTrue, true, nat_le, replicate, ◌==◌, if◌then◌else◌}
+use Rattle.std.specs.List.{list_all}
+use Rattle.std.proofs.lemmas.Bool.{and_parts, eqb-true}
 use Rattle.std.proofs.lemmas.List.{append-nil, append_cancel_right}
+use Rattle.std.proofs.lemmas.List.Folds.{list_all-append}
 use Rattle.jv_text.specs.declared.descriptor.Base.{Base}
 use Rattle.jv_text.specs.declared.descriptor.Base.TheVariants.{Byte, Char, Double, Float, Int, Long, Short, Boolean}
 use Rattle.jv_text.specs.declared.descriptor.Element.{Element}
 use Rattle.jv_text.specs.declared.descriptor.Element.TheVariants as elements
 use Rattle.jv_text.specs.declared.descriptor.FieldTypeOf.{FieldTypeOf}
-use Rattle.jv_text.specs.Name.{is_class_name}
+use Rattle.jv_text.specs.Name.{is_class_name, begins_with}
 use Rattle.jv_text.specs.Descriptor.{base_letter, element_text, is_element, field_text, is_field_type, IsField, OneField}
-use Rattle.jv_text.proofs.Names.{class_inside, one_end}
+use Rattle.jv_text.specs.Inside.Marks.{is_class_byte}
+use Rattle.jv_text.proofs.Names.{class_inside, class_bytes, one_end}
 
 -- the primitive type of a letter
 base_at : ℕ → Option Base
@@ -51,6 +54,10 @@ bracket_letter = refl
 close_letter : base_at 41 ≡ None
 unfolding base_at
 close_letter = refl
+
+open_letter : base_at 40 ≡ None
+unfolding base_at
+open_letter = refl
 
 void_letter : base_at 86 ≡ None
 unfolding base_at
@@ -124,6 +131,28 @@ no_close t x rest = field_letter t 41 x rest close_letter (λ same. omega (arith
 
 pub no_void : (t : FieldTypeOf (List ℕ)) (x rest : List ℕ) → field_text t ++ x ≡ 86 ∷ rest → ⊥
 no_void t x rest = field_letter t 86 x rest void_letter (λ same. omega (arith, same)) (λ same. omega (arith, same))
+
+-- no field descriptor begins with `(`
+pub opened_field : (text : List ℕ) (t : FieldTypeOf (List ℕ)) → begins_with 40 text ≡ true → IsField text t → ⊥
+opened_field [] t opened h = absurd cc
+opened_field (byte ∷ rest) t opened h =
+    field_letter t 40 [] rest open_letter (λ same. omega (arith, same)) (λ same. omega (arith, same))
+    (append-nil (field_text t) ∙ sym h.spelled ∙ ap (λ b. b ∷ rest) (eqb-true byte 40 opened))
+
+-- one that is a class name is a letter
+pub class_field : (text : List ℕ) (t : FieldTypeOf (List ℕ)) → IsTrue (is_class_name text) → IsField text t → length text ≡ 1
+class_field text t class h =
+    ap length h.spelled ∙ letter t.dimensions t.element (subst (λ (xs : List ℕ). IsTrue (list_all is_class_byte xs)) h.spelled (class_bytes text class))
+  where
+    letter : (n : ℕ) (e : Element (List ℕ)) → IsTrue (list_all is_class_byte (replicate n 91 ++ element_text e)) → length (replicate n 91 ++ element_text e) ≡ 1
+    letter zero (elements.Base b) all = refl
+    letter zero (elements.Class name) all =
+        let parts = and_parts (is_class_byte 76) (list_all is_class_byte (name ++ (59 ∷ []))) all in
+        let ends = and_parts (list_all is_class_byte name) (list_all is_class_byte (59 ∷ [])) (sym (list_all-append is_class_byte name (59 ∷ [])) ∙ parts.1) in
+        absurd cc
+    letter (suc n) e all =
+        let parts = and_parts (is_class_byte 91) (list_all is_class_byte (replicate n 91 ++ element_text e)) all in
+        absurd cc
 
 -- a type has at most 255 brackets
 pub too_many : (text rest : List ℕ) → text ≡ replicate 255 91 ++ (91 ∷ rest) → (t : FieldTypeOf (List ℕ)) (x : List ℕ) → IsTrue (is_field_type t) → text ≡ field_text t ++ x → ⊥

@@ -8,6 +8,7 @@ use Rattle.std.proofs.lemmas.List.{append-nil}
 use Rattle.std.proofs.lemmas.List.Folds.{list_all-append, list_any-append}
 use Rattle.std.proofs.lemmas.List.Sums.{sum_by-append, sum_by-cons}
 use Rattle.jv_text.specs.declared.descriptor.FieldTypeOf.{FieldTypeOf}
+use Rattle.jv_text.specs.Name.{begins_with}
 use Rattle.jv_text.specs.Descriptor.{field_text, is_field_type, field_slots, result_text, is_result_type, MethodDescriptor, method_text, slots, is_floating, is_floating_result, IsMethod, OneMethod}
 use Rattle.jv_text.proofs.Fields.{one_front, no_close, no_void}
 
@@ -33,6 +34,12 @@ one_result (Some t) (Some u) h k e = ap (λ (x : FieldTypeOf (List ℕ)). Some x
 
 abbrev made : List (FieldTypeOf (List ℕ)) → Option (FieldTypeOf (List ℕ)) → MethodDescriptor
 made parameters result = record { parameters = parameters; result = result }
+
+-- each method descriptor begins with `(`
+pub unopened_method : (text : List ℕ) (m : MethodDescriptor) → begins_with 40 text ≡ false → IsMethod text m → ⊥
+unopened_method text m unopened h =
+    let opened : begins_with 40 text ≡ true = ap (begins_with 40) h.spelled in
+    absurd cc
 
 -- the law: one method type
 pub one_method : OneMethod

@@ -1,6 +1,6 @@
 -- No `;` stands in a class name.
 use Rattle.std.proofs.Common.{◌≡◌, ℕ, ◌+◌, ◌<◌, ◌≤◌, zero, suc, Bool, true, false, List, [], ◌∷◌, ◌++◌, length, take, drop, get_or, refl, sym, ap, ◌∙◌, arith, cond, Some, None}
-use Rattle.std.specs.Prelude.{IsTrue, not, ◌==◌, ◌&&◌}
+use Rattle.std.specs.Prelude.{IsTrue, not, ◌==◌, ◌&&◌, ◌||◌}
 use Rattle.std.specs.List.{list_all, slice_split, onto_first, position, prefix_len}
 use Rattle.std.proofs.lemmas.Bool.{and_parts, and_from}
 use Rattle.std.proofs.lemmas.Grind.{common_steps}
@@ -8,6 +8,7 @@ use Rattle.std.proofs.Math.Seq.{drop-cons}
 use Rattle.std.proofs.lemmas.List.{take-append-drop}
 use Rattle.std.proofs.lemmas.List.Quantifiers.{position-Some}
 use Rattle.jv_text.specs.Name.{is_name_byte, is_unqualified_name, is_class_name}
+use Rattle.jv_text.specs.Inside.Marks.{is_class_byte}
 
 -- every byte but `;`
 abbrev pub is_inside : ℕ → Bool
@@ -24,29 +25,40 @@ named (part ∷ parts) h =
     let both = and_parts (not (length part == 0)) (list_all is_name_byte part) each.0 in
     and_from (list_all is_name_byte part) (are_named parts) both.1 (named parts each.1)
 
+-- what holds of the bytes of names and of `/` holds of those of class names
+module _ (passes : ℕ → Bool) (name_passes : (x : ℕ) → IsTrue (is_name_byte x) → IsTrue (passes x)) (slash_passes : (x : ℕ) → (x == 47) ≡ true → IsTrue (passes x)) where
+  -- a byte before a `/`, or in a part
+  byte_and_parts : (b : Bool) (x : ℕ) (parts : List (List ℕ)) → (x == 47) ≡ b → IsTrue (are_named (cond b ([] ∷ parts) (onto_first x parts))) → IsTrue (passes x) × IsTrue (are_named parts)
+  byte_and_parts true x parts e h = (slash_passes x e, h)
+  byte_and_parts false x [] e h = (name_passes x (and_parts (is_name_byte x) true (and_parts (is_name_byte x && true) true h).0).0, refl)
+  byte_and_parts false x (part ∷ parts) e h =
+      let each = and_parts (is_name_byte x && list_all is_name_byte part) (are_named parts) h in
+      let both = and_parts (is_name_byte x) (list_all is_name_byte part) each.0 in
+      (name_passes x both.0, and_from (list_all is_name_byte part) (are_named parts) both.1 each.1)
+
+  parts_pass : (xs : List ℕ) → IsTrue (are_named (slice_split (λ byte. byte == 47) xs)) → IsTrue (list_all passes xs)
+  parts_pass [] h = refl
+  parts_pass (x ∷ xs) h =
+      let both = byte_and_parts (x == 47) x (slice_split (λ byte. byte == 47) xs) refl h in
+      and_from (passes x) (list_all passes xs) both.0 (parts_pass xs both.1)
+
 byte_inside : (x : ℕ) → IsTrue (is_name_byte x) → IsTrue (is_inside x)
 byte_inside x h = grind (arith, common_steps)
 
 slash_inside : (x : ℕ) → (x == 47) ≡ true → IsTrue (is_inside x)
 slash_inside x h = grind (arith, common_steps)
 
--- a byte before a `/`, or in a part
-byte_and_parts : (b : Bool) (x : ℕ) (parts : List (List ℕ)) → (x == 47) ≡ b → IsTrue (are_named (cond b ([] ∷ parts) (onto_first x parts))) → IsTrue (is_inside x) × IsTrue (are_named parts)
-byte_and_parts true x parts e h = (slash_inside x e, h)
-byte_and_parts false x [] e h = (byte_inside x (and_parts (is_name_byte x) true (and_parts (is_name_byte x && true) true h).0).0, refl)
-byte_and_parts false x (part ∷ parts) e h =
-    let each = and_parts (is_name_byte x && list_all is_name_byte part) (are_named parts) h in
-    let both = and_parts (is_name_byte x) (list_all is_name_byte part) each.0 in
-    (byte_inside x both.0, and_from (list_all is_name_byte part) (are_named parts) both.1 each.1)
-
-parts_inside : (xs : List ℕ) → IsTrue (are_named (slice_split (λ byte. byte == 47) xs)) → IsTrue (list_all is_inside xs)
-parts_inside [] h = refl
-parts_inside (x ∷ xs) h =
-    let both = byte_and_parts (x == 47) x (slice_split (λ byte. byte == 47) xs) refl h in
-    and_from (is_inside x) (list_all is_inside xs) both.0 (parts_inside xs both.1)
-
 pub class_inside : (name : List ℕ) → IsTrue (is_class_name name) → IsTrue (list_all is_inside name)
-class_inside name h = parts_inside name (named (slice_split (λ byte. byte == 47) name) h)
+class_inside name h = parts_pass is_inside byte_inside slash_inside name (named (slice_split (λ byte. byte == 47) name) h)
+
+name_or_slash : (x : ℕ) → IsTrue (is_name_byte x) → IsTrue (is_class_byte x)
+name_or_slash x h = ap (λ b. b || x == 47) h
+
+slash_or_name : (x : ℕ) → (x == 47) ≡ true → IsTrue (is_class_byte x)
+slash_or_name x h = grind (arith, common_steps)
+
+pub class_bytes : (name : List ℕ) → IsTrue (is_class_name name) → IsTrue (list_all is_class_byte name)
+class_bytes name h = parts_pass is_class_byte name_or_slash slash_or_name name (named (slice_split (λ byte. byte == 47) name) h)
 
 not_inside : (x : ℕ) → x ≡ 59 → IsTrue (is_inside x) → ⊥
 not_inside x e h = grind (arith, common_steps)

@@ -7,6 +7,7 @@
 
 mod descriptor;
 mod field;
+mod kinds;
 mod method;
 mod name;
 mod text;
@@ -19,6 +20,7 @@ pub use descriptor::{
     BadDescriptor, Base, DescFault, Element, FieldType, FieldTypeOf, MethodShape, MethodType,
 };
 pub use field::{field_type, known_field_type};
+pub use kinds::{TextKinds, text_kinds};
 pub use method::{is_floating, method_shape, method_type};
 pub use name::{
     begins_with, is_array_name, is_class_name, is_init, is_member_name, is_method_name,

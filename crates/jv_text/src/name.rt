@@ -38,7 +38,7 @@ fn is_plain(text: &[u8]) -> bool
     text.iter().all(|byte| !matches!(*byte, b'<' | b'>'))
 }
 
-fn is_special(text: &[u8]) -> bool
+pub(crate) fn is_special(text: &[u8]) -> bool
     ensures { result ≡ is_special_name text.now }
 {
     text == b"<init>".as_slice() || text == b"<clinit>".as_slice()

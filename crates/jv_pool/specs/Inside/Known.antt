@@ -2,6 +2,7 @@
 use Rattle.std.specs.Prelude.{◌≡◌, ⊤, ℕ, zero, suc, ◌+◌, ◌<◌, ◌≤◌, Bool, true, ◌&&◌, if◌then◌else◌, List, [], ◌∷◌, ◌++◌, length, Option, Some, None, slice_get, get_or, IsTrue}
 use Rattle.std.specs.Option.{IsSomeAnd}
 use Rattle.jv_format.specs.Format.{◌>>=◌}
+use Rattle.jv_text.specs.Text.{IsText}
 use Rattle.jv_text.specs.Name.{is_plain_name, is_method_name}
 use Rattle.jv_pool.specs.declared.constant.Constant.TheVariants.{NameAndType}
 use Rattle.jv_pool.specs.declared.facts.TextFacts.{TextFacts}
@@ -45,6 +46,18 @@ IsAdded None known before after place = (after ≡ before) × (place ≡ 0)
 IsAdded (Some text) (Some known) before after place = (after ≡ before) × (place ≡ known)
 IsAdded (Some text) None before after place =
     (facts : TextFacts) × AreFacts text facts × (after ≡ before ++ facts ∷ []) × (place ≡ length before + 1)
+
+-- where it joined, it is modified UTF-8 (4.4.7)
+abbrev pub IsNewText : Option (List ℕ) → Option ℕ → Type 0
+IsNewText (Some text) None = IsText text
+IsNewText text before = ⊤
+
+-- all texts are, and those at the first indices
+abbrev pub AreTexts : List Entry → Type 0
+AreTexts pool = (index : ℕ) (text : List ℕ) → utf8_at pool index ≡ Some text → IsText text
+
+abbrev pub AreTextsBelow : List Entry → ℕ → Type 0
+AreTextsBelow pool count = (index : ℕ) → index < count → (text : List ℕ) → utf8_at pool index ≡ Some text → IsText text
 
 -- what is known of a method descriptor
 abbrev pub MethodKnown : Option (List ℕ) → Option MethodFacts → Type 0
