@@ -1,15 +1,16 @@
 -- Classes as a list keeps them.
-use Rattle.std.proofs.Common.{◌≡◌, ℕ, suc, ◌+◌, Bool, true, false, cond, List, [], ◌∷◌, ◌++◌, ◌||◌, length, nat_lt, Some, None, refl, sym, ap, ◌∙◌, subst, arith, inl, inr}
-use Rattle.std.specs.Prelude.{slice_get, IsTrue, ◌⊎◌}
+use Rattle.std.proofs.Common.{◌≡◌, ℕ, suc, ◌+◌, ◌<◌, Bool, true, false, cond, Option, List, [], ◌∷◌, ◌++◌, ◌||◌, length, take, drop, nat_lt, Some, None, refl, sym, ap, ◌∙◌, subst, append_assoc, arith, inl, inr}
+use Rattle.std.specs.Prelude.{slice_get, IfSome, IsTrue, ◌⊎◌}
 use Rattle.std.specs.List.{position, position_or_len, position_from, list_any}
 use Rattle.std.proofs.lemmas.Iterator.Adapters.{position_from-zero}
 use Rattle.std.specs.Str.{bytes_eq}
 use Rattle.std.specs.Cmp.Lexicographic.{nat_list_eq_equiv}
-use Rattle.std.proofs.lemmas.List.{length-map, map-append}
+use Rattle.std.proofs.lemmas.List.{length-map, map-append, append-nil, take-append-drop, length-take}
 use Rattle.std.proofs.lemmas.List.Recursion.{is_position_or_len}
 use Rattle.indexmap.specs.IndexSet.{insert_key}
 use Rattle.std.specs.Borrow.{Bor}
 use Rattle.jv_classes.specs.Inside.KeptNames.{text_of, texts_of}
+use Rattle.jv_classes.proofs.Places.{place_within}
 use Rattle.jv_classes.proofs.Pushed.{in_two_parts}
 use Rattle.jv_class.specs.Rules.{is_no_array_name}
 use Rattle.jv_meaning_world.specs.World.{Loaded}
@@ -131,3 +132,26 @@ no_arrays_more ls c last others place l e = by_part (in_two_parts ls c l place e
     by_part : (slice_get ls place ≡ Some l) ⊎ ((place ≡ length ls) × (c ≡ l)) → IsTrue (is_no_array_name l.class.name)
     by_part (inl at) = others place l at
     by_part (inr h) = subst (λ (m : Loaded). IsTrue (is_no_array_name m.class.name)) h.1 last
+
+-- ---- the first classes of a list
+
+found_front : (test : Loaded → Bool) (ls more : List Loaded) (k : ℕ) → position test ls ≡ Some k → position test (ls ++ more) ≡ Some k
+found_front test ls [] k e = subst (λ all. position test all ≡ Some k) (sym (append-nil ls)) e
+found_front test ls (l ∷ more) k e =
+    subst (λ all. position test all ≡ Some k) (append_assoc ls (l ∷ []) more) (found_front test (ls ++ l ∷ []) more k (found_before test ls l k e))
+
+-- none of them has the name of the next
+pub free_in_front : (ls : List Loaded) → IsNumbered ls → (i : ℕ) (l : Loaded) → slice_get ls i ≡ Some l → number_named (take i ls) l.class.name ≡ None
+free_in_front ls numbers i l at = by_place (number_named (take i ls) l.class.name) refl
+  where
+    is_named : Loaded → Bool
+    is_named m = bytes_eq m.class.name l.class.name
+
+    by_place : (o : Option ℕ) → number_named (take i ls) l.class.name ≡ o → o ≡ None
+    by_place None e = refl
+    by_place (Some k) e =
+        let whole : position is_named ls ≡ Some k = subst (λ all. position is_named all ≡ Some k) (take-append-drop i ls) (found_front is_named (take i ls) (drop i ls) k e) in
+        let one : Some k ≡ Some i = sym whole ∙ numbers i l at in
+        let same : k ≡ i = cc in
+        let below : k < length (take i ls) = subst (λ (o : Option ℕ). IfSome o (λ place. place < length (take i ls))) e (place_within is_named (take i ls)) in
+        absurd (omega (arith, same, below, length-take i ls))

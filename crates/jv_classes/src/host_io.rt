@@ -7,7 +7,6 @@ ghost use Rattle.jv_classes.specs.Inside.Seen.{member_made, method_seen};
 
 use crate::kept::Kept;
 use crate::members::{Gathered, Members};
-use crate::text::{Text, seed_of};
 use std::alloc::{AllocError, Global};
 use std::hash::RandomState;
 
@@ -18,33 +17,29 @@ const PUBLIC_FINAL_SUPER: u16 = 0x0031;
 /// Adds a method behind the others.
 fn add_method<'a>(
     gathered: &mut Gathered<'a>,
-    seed: u64,
     access_flags: u16,
     name: &'a [u8],
     descriptor: &'a [u8],
 ) -> Result<(), AllocError>
     ensures { OnOk result (gathered.new.members ≡ gathered.old.members ++ member_made access_flags name.now descriptor.now ∷ []) }
 {
-    let name = gathered.add_text(&Text::new(seed, name))?;
-    let descriptor = gathered.add_text(&Text::new(seed, descriptor))?;
+    let name = gathered.add_text(name)?;
+    let descriptor = gathered.add_text(descriptor)?;
     gathered.add(access_flags, name, descriptor)
 }
 
 fn io_methods<'a>(alloc: Global, state: RandomState) -> Result<Members<'a>, AllocError>
     ensures { IfOk result (λ methods. methods ≡ map method_seen io.methods) }
 {
-    let seed = seed_of(state);
     let mut gathered = Gathered::with_capacity(alloc, state, 2)?;
     add_method(
         &mut gathered,
-        seed,
         PUBLIC_STATIC,
         b"read".as_slice(),
         b"()I".as_slice(),
     )?;
     add_method(
         &mut gathered,
-        seed,
         PUBLIC_STATIC,
         b"write".as_slice(),
         b"(I)V".as_slice(),

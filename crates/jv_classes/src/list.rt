@@ -1,6 +1,6 @@
 //! Classes in the order in which they came.
 
-ghost use Rattle.std.specs.Prelude.{◌≡◌, ◌<◌, ◌++◌, [], ◌∷◌, None, OnOk, OnErr, length};
+ghost use Rattle.std.specs.Prelude.{◌≡◌, ◌<◌, ◌++◌, [], ◌∷◌, None, IfOk, OnOk, OnErr, length};
 ghost use Rattle.jv_meaning_world.specs.Numbers.{number_named, IsNumbered, AreNoArrays};
 
 use crate::loaded_class::LoadedClass;
@@ -53,6 +53,21 @@ impl<'a> ClassList<'a> {
             names: IndexSet::with_hasher(alloc, state),
             classes: Vec::new(alloc),
         }
+    }
+
+    /// The same classes in a list of their own, whose names are hashed with the state; what was read of each is shared.
+    ///
+    /// # Errors
+    ///
+    /// Where the host had no memory for the list.
+    pub fn shared(&self, alloc: Global, state: RandomState) -> Result<ClassList<'a>, AllocError>
+        ensures { IfOk result (λ list. list ≡ self.now) }
+    {
+        let mut list = ClassList::new(alloc, state);
+        for class in &self.classes {
+            list.add(class.clone()?)?;
+        }
+        Ok(list)
     }
 
     /// Each class is the one of its name. The call does nothing.

@@ -21,6 +21,7 @@ use jv_class::{ClassFile, is_some_class};
 use std::alloc::{AllocError, Global};
 use std::hash::RandomState;
 use std::marker::Model;
+use std::sync::Arc;
 
 // The access flags that are asked for here (JVMS table 4.1-A).
 const PUBLIC: u16 = 0x0001;
@@ -29,32 +30,52 @@ const FINAL: u16 = 0x0010;
 
 const INTERFACE: u16 = 0x0200;
 
+/// What was read of a class: its file, and what is kept beside it.
+#[derive(Drop)]
+pub(crate) struct ReadClass<'a> {
+    pub(crate) file: Option<ClassFile<'a>>,
+    pub(crate) kept: Kept<'a>,
+}
+
 /// A class of a guest's world (JVMS 5.3) with its file, except for host/Io, which has none. In
-/// contracts it is the class by its names, with its loader. Its names are parts of the file.
+/// contracts it is the class by its names, with its loader. Its names are parts of the file. What was read is shared with its clones, as
+/// in the worlds of guests that stand on one library.
 pub struct LoadedClass<'a> {
     by_system: bool,
-    file: Option<ClassFile<'a>>,
-    kept: Kept<'a>,
+    read: Arc<ReadClass<'a>, Global>,
 }
 
 impl<'a> Model for LoadedClass<'a> {
     ghost use Rattle.jv_meaning_world.specs.World.{Loaded, loaded};
+    ghost use Rattle.std.specs.Arc.{arc_value};
     ghost use Rattle.jv_classes.specs.Inside.Kept.{class_of_file, IsLoaded};
 
     ghost Value = { Loaded };
 
-    ghost view = { λ l. loaded l.by_system (class_of_file l.file) };
+    ghost view = { λ l. loaded l.by_system (class_of_file (arc_value l.read).file) };
 
-    ghost invariant = { λ l. IsLoaded l.by_system l.file l.kept };
+    ghost invariant = { λ l. IsLoaded l.by_system (arc_value l.read).file (arc_value l.read).kept };
 }
 
 impl Drop for LoadedClass<'_> {
     fn drop(self) {
         let LoadedClass {
             by_system: _,
-            file: _,
-            kept: _,
+            read: _,
         } = self;
+    }
+}
+
+impl<'a> Clone for LoadedClass<'a> {
+    ghost use Rattle.std.specs.Prelude.{◌≡◌};
+
+    ghost is_clone = { λ l copy. copy ≡ l };
+
+    fn clone(&self) -> Result<LoadedClass<'a>, AllocError> {
+        Ok(LoadedClass {
+            by_system: self.by_system,
+            read: self.read.clone()?,
+        })
     }
 }
 
@@ -76,11 +97,14 @@ impl<'a> LoadedClass<'a> {
         is_some_class();
         file.is_well_formed();
         let kept = kept_of_file(alloc, state, &file)?;
-        Ok(LoadedClass {
-            by_system,
-            file: Some(file),
-            kept,
-        })
+        let read = Arc::new(
+            alloc,
+            ReadClass {
+                file: Some(file),
+                kept,
+            },
+        )?;
+        Ok(LoadedClass { by_system, read })
     }
 
     /// host/Io, the one class without a file, whose members are hashed with the state.
@@ -92,10 +116,10 @@ impl<'a> LoadedClass<'a> {
         ensures { IfOk result (λ l. l ≡ loaded true io) }
     {
         let kept = kept_of_io(alloc, state)?;
+        let read = Arc::new(alloc, ReadClass { file: None, kept })?;
         Ok(LoadedClass {
             by_system: true,
-            file: None,
-            kept,
+            read,
         })
     }
 
@@ -104,14 +128,14 @@ impl<'a> LoadedClass<'a> {
         ensures file { IfSome result (λ file. class_of file.now ≡ Some self.now.class) }
         ensures none { IfNone result (self.now ≡ loaded true io) }
     {
-        self.file.as_ref()
+        self.read.file.as_ref()
     }
 
     /// The name of the class is none of an array (JVMS 4.1). The call does nothing.
     pub fn is_no_array(&self)
         ensures { IsTrue (is_no_array_name self.now.class.name) }
     {
-        if let Some(file) = &self.file {
+        if let Some(file) = &self.read.file {
             file.is_well_formed();
         }
     }
@@ -127,35 +151,35 @@ impl<'a> LoadedClass<'a> {
     pub fn major(&self) -> u16
         ensures { result ≡ self.now.class.major_version }
     {
-        self.kept.major
+        self.read.kept.major
     }
 
     /// The access flags (JVMS 4.1, table 4.1-A).
     pub fn access_flags(&self) -> u16
         ensures { result ≡ self.now.class.access_flags }
     {
-        self.kept.access_flags
+        self.read.kept.access_flags
     }
 
     /// The name of the class, in internal form (JVMS 4.2.1).
     pub fn name(&self) -> &'a [u8]
         ensures { result.now ≡ self.now.class.name }
     {
-        self.kept.name
+        self.read.kept.name
     }
 
     /// The name of the superclass; `None` for java/lang/Object alone.
     pub fn super_name(&self) -> Option<&'a [u8]>
         ensures { option_copied result ≡ self.now.class.super_class }
     {
-        self.kept.super_name
+        self.read.kept.super_name
     }
 
     /// How many direct superinterfaces there are.
     pub fn interface_count(&self) -> usize
         ensures { result ≡ length self.now.class.interfaces }
     {
-        match &self.file {
+        match &self.read.file {
             Some(file) => file.interfaces().len(),
             None => 0,
         }
@@ -166,7 +190,7 @@ impl<'a> LoadedClass<'a> {
         requires { place < length self.now.class.interfaces }
         ensures { slice_get self.now.class.interfaces place ≡ Some result.now }
     {
-        match &self.file {
+        match &self.read.file {
             Some(file) => interface_in(file, place),
             None => b"".as_slice(),
         }
@@ -176,7 +200,7 @@ impl<'a> LoadedClass<'a> {
     pub fn field_count(&self) -> usize
         ensures { result ≡ length self.now.class.fields }
     {
-        self.kept.fields.count()
+        self.read.kept.fields.count()
     }
 
     /// The field at a place, the first at 0 (JVMS 4.5).
@@ -184,7 +208,7 @@ impl<'a> LoadedClass<'a> {
         requires { place < length self.now.class.fields }
         ensures { IsSomeAnd (slice_get self.now.class.fields place) (IsField result) }
     {
-        self.kept.fields.at(place)
+        self.read.kept.fields.at(place)
     }
 
     /// The place of the field with a name and a descriptor; `None` where there is none. No text that knows its hash is
@@ -194,7 +218,7 @@ impl<'a> LoadedClass<'a> {
         ensures found { option_and_then (slice_get self.now.class.fields) result ≡ field_named self.now.class name.now descriptor.now }
         ensures within { IfSome result (λ place. place < length self.now.class.fields) }
     {
-        self.kept.fields.place_of(name, descriptor)
+        self.read.kept.fields.place_of(name, descriptor)
     }
 
     /// The place of the field with a name and a descriptor; `None` where there is none. It costs one
@@ -204,7 +228,7 @@ impl<'a> LoadedClass<'a> {
         ensures found { option_and_then (slice_get self.now.class.fields) result ≡ field_named self.now.class name.now descriptor.now }
         ensures within { IfSome result (λ place. place < length self.now.class.fields) }
     {
-        let seed = self.kept.fields.seed();
+        let seed = self.read.kept.fields.seed();
         self.field_of(&Text::new(seed, name), &Text::new(seed, descriptor))
     }
 
@@ -213,7 +237,7 @@ impl<'a> LoadedClass<'a> {
         requires { place < length self.now.class.fields }
         ensures { IsSomeAnd (slice_get self.now.class.fields place) (λ f. f.name ≡ result) }
     {
-        self.kept.fields.name_at(place)
+        self.read.kept.fields.name_at(place)
     }
 
     /// The descriptor of the field at a place, with its hash.
@@ -221,14 +245,14 @@ impl<'a> LoadedClass<'a> {
         requires { place < length self.now.class.fields }
         ensures { IsSomeAnd (slice_get self.now.class.fields place) (λ f. f.descriptor ≡ result) }
     {
-        self.kept.fields.descriptor_at(place)
+        self.read.kept.fields.descriptor_at(place)
     }
 
     /// How many methods there are.
     pub fn method_count(&self) -> usize
         ensures { result ≡ length self.now.class.methods }
     {
-        self.kept.methods.count()
+        self.read.kept.methods.count()
     }
 
     /// The method at a place, the first at 0 (JVMS 4.6).
@@ -236,7 +260,7 @@ impl<'a> LoadedClass<'a> {
         requires { place < length self.now.class.methods }
         ensures { IsSomeAnd (slice_get self.now.class.methods place) (IsMethod result) }
     {
-        self.kept.methods.at(place)
+        self.read.kept.methods.at(place)
     }
 
     /// The place of the method with a name and a descriptor; `None` where there is none. No text that knows its hash is
@@ -246,7 +270,7 @@ impl<'a> LoadedClass<'a> {
         ensures found { option_and_then (slice_get self.now.class.methods) result ≡ method_named self.now.class name.now descriptor.now }
         ensures within { IfSome result (λ place. place < length self.now.class.methods) }
     {
-        self.kept.methods.place_of(name, descriptor)
+        self.read.kept.methods.place_of(name, descriptor)
     }
 
     /// The place of the method with a name and a descriptor; `None` where there is none. It costs one
@@ -256,7 +280,7 @@ impl<'a> LoadedClass<'a> {
         ensures found { option_and_then (slice_get self.now.class.methods) result ≡ method_named self.now.class name.now descriptor.now }
         ensures within { IfSome result (λ place. place < length self.now.class.methods) }
     {
-        let seed = self.kept.methods.seed();
+        let seed = self.read.kept.methods.seed();
         self.method_of(&Text::new(seed, name), &Text::new(seed, descriptor))
     }
 
@@ -265,7 +289,7 @@ impl<'a> LoadedClass<'a> {
         requires { place < length self.now.class.methods }
         ensures { IsSomeAnd (slice_get self.now.class.methods place) (λ m. m.name ≡ result) }
     {
-        self.kept.methods.name_at(place)
+        self.read.kept.methods.name_at(place)
     }
 
     /// The descriptor of the method at a place, with its hash.
@@ -273,7 +297,7 @@ impl<'a> LoadedClass<'a> {
         requires { place < length self.now.class.methods }
         ensures { IsSomeAnd (slice_get self.now.class.methods place) (λ m. m.descriptor ≡ result) }
     {
-        self.kept.methods.descriptor_at(place)
+        self.read.kept.methods.descriptor_at(place)
     }
 
     /// Whether the class is an interface.
@@ -294,7 +318,7 @@ impl<'a> LoadedClass<'a> {
     pub fn package(&self) -> &'a [u8]
         ensures { result.now ≡ package_of self.now.class.name }
     {
-        self.kept.package_name
+        self.read.kept.package_name
     }
 
     /// Whether two classes are in one run-time package (JVMS 5.3).

@@ -10,7 +10,7 @@ ghost use Rattle.jv_classes.specs.Inside.Linked.{AreKept};
 ghost use Rattle.jv_classes.specs.Marks.{slot_of};
 
 use crate::member::Member;
-use crate::text::{Text, seed_of};
+use crate::text::{Text, seed_of, text_hash};
 use std::alloc::{AllocError, Global};
 use std::hash::RandomState;
 use std::marker::Model;
@@ -166,13 +166,13 @@ fn put_end(ends: &mut Vec<u16>, key: u64, end: u16) -> u16
 }
 
 /// What is kept of a text.
-fn kept<'a>(seed: u64, text: &Text<'a>) -> KeptText<'a>
-    ensures seen { kept_text result ≡ text.now }
+fn kept<'a>(seed: u64, bytes: &'a [u8]) -> KeptText<'a>
+    ensures seen { kept_text result ≡ bytes.now }
     ensures hashed { IsHashed seed result }
 {
     KeptText {
-        bytes: text.bytes(),
-        hash: text.hash_under(seed),
+        bytes,
+        hash: text_hash(seed, bytes),
     }
 }
 
@@ -275,7 +275,7 @@ impl<'a> Gathered<'a> {
     }
 
     /// Adds a text behind the others, and answers its place. There is no memory for more of them than a class file can have.
-    pub(crate) fn add_text(&mut self, text: &Text<'a>) -> Result<u16, AllocError>
+    pub(crate) fn add_text(&mut self, text: &'a [u8]) -> Result<u16, AllocError>
         ensures place { IfOk result (λ place. place ≡ length self.old.texts) }
         ensures added { OnOk result (self.new ≡ with_text self.old text.now) }
     {

@@ -7,16 +7,13 @@ ghost use Rattle.jv_pool.specs.Constants.{utf8_at};
 ghost use Rattle.jv_class.specs.Class.{Class, all_found, class_of, super_of};
 ghost use Rattle.jv_class.specs.Rules.{NoTwoAlike};
 ghost use Rattle.jv_class_structure.specs.Parts.{methods_of};
-ghost use Rattle.jv_classes.specs.Hashes.{AreHashes};
 ghost use Rattle.jv_classes.specs.Inside.Kept.{Keeps};
 ghost use Rattle.jv_classes.specs.Inside.Seen.{field_seen, method_seen};
 ghost use Rattle.jv_classes.specs.Inside.Found.{ArePlaces, Joins, Stay, field_at, field_texts, member_seen_at, method_at};
 
-use crate::hashing::{pool_hashes, text_in};
 use crate::kept::Kept;
 use crate::members::{Gathered, Members};
 use crate::package::package;
-use crate::text::seed_of;
 use jv_class::{ClassFile, Field};
 use jv_pool::{Pool, Utf8Index};
 use std::alloc::{AllocError, Global};
@@ -46,12 +43,9 @@ fn keep_place(places: &mut Vec<Option<u16>>, index: u16, place: u16)
 fn place_of_text<'a>(
     gathered: &mut Gathered<'a>,
     places: &mut Vec<Option<u16>>,
-    seed: u64,
-    hashes: &[u64],
     pool: &Pool<'a>,
     index: Utf8Index,
 ) -> Result<u16, AllocError>
-    requires hashes { AreHashes seed pool.now hashes.now }
     requires text { IsSome (utf8_at pool.now index.0) }
     requires places { ArePlaces pool.now places.now.items gathered.now.texts }
     ensures found { IfOk result (λ place. slice_get gathered.new.texts place ≡ utf8_at pool.now index.0) }
@@ -62,7 +56,7 @@ fn place_of_text<'a>(
     if let Some(place) = place_known(places, index.0) {
         return Ok(place);
     }
-    let place = gathered.add_text(&text_in(seed, hashes, pool, index))?;
+    let place = gathered.add_text(pool.utf8(index))?;
     keep_place(places, index.0, place);
     Ok(place)
 }
@@ -71,34 +65,28 @@ fn place_of_text<'a>(
 fn add_member<'a>(
     gathered: &mut Gathered<'a>,
     places: &mut Vec<Option<u16>>,
-    seed: u64,
-    hashes: &[u64],
     pool: &Pool<'a>,
     flags: u16,
     name: Utf8Index,
     descriptor: Utf8Index,
 ) -> Result<(), AllocError>
-    requires hashes { AreHashes seed pool.now hashes.now }
     requires name { IsSome (utf8_at pool.now name.0) }
     requires descriptor { IsSome (utf8_at pool.now descriptor.0) }
     requires places { ArePlaces pool.now places.now.items gathered.now.texts }
     ensures joins { OnOk result (Joins (member_seen_at pool.now flags name.0 descriptor.0) gathered.old.members gathered.new.members) }
     ensures places { OnOk result (ArePlaces pool.now places.new.items gathered.new.texts) }
 {
-    let name = place_of_text(gathered, places, seed, hashes, pool, name)?;
-    let descriptor = place_of_text(gathered, places, seed, hashes, pool, descriptor)?;
+    let name = place_of_text(gathered, places, pool, name)?;
+    let descriptor = place_of_text(gathered, places, pool, descriptor)?;
     gathered.add(flags, name, descriptor)
 }
 
 fn fields_in<'a>(
     alloc: Global,
     state: RandomState,
-    seed: u64,
-    hashes: &[u64],
     pool: &Pool<'a>,
     fields: &[Field],
 ) -> Result<Members<'a>, AllocError>
-    requires hashes { AreHashes seed pool.now hashes.now }
     requires named { All (λ field. IsSome (utf8_at pool.now field.name.0)) fields.now }
     requires described { All (λ field. IsSome (utf8_at pool.now field.descriptor.0)) fields.now }
     requires unlike { NoTwoAlike (map (field_texts pool.now) fields.now) }
@@ -110,8 +98,6 @@ fn fields_in<'a>(
         add_member(
             &mut gathered,
             &mut places,
-            seed,
-            hashes,
             pool,
             field.access_flags.0,
             field.name,
@@ -125,12 +111,9 @@ fn fields_in<'a>(
 fn add_method<'a>(
     gathered: &mut Gathered<'a>,
     places: &mut Vec<Option<u16>>,
-    seed: u64,
-    hashes: &[u64],
     file: &ClassFile<'a>,
     place: usize,
 ) -> Result<(), AllocError>
-    requires hashes { AreHashes seed file.now.constant_pool hashes.now }
     requires places { ArePlaces file.now.constant_pool places.now.items gathered.now.texts }
     ensures joins { OnOk result (IfSome (slice_get (methods_of file.now) place)
         (λ m. Joins (method_at file.now.constant_pool m) gathered.old.members gathered.new.members)) }
@@ -140,8 +123,6 @@ fn add_method<'a>(
         Some(method) => add_member(
             gathered,
             places,
-            seed,
-            hashes,
             file.pool(),
             method.access_flags.0,
             method.name,
@@ -154,17 +135,14 @@ fn add_method<'a>(
 fn methods_in<'a>(
     alloc: Global,
     state: RandomState,
-    seed: u64,
-    hashes: &[u64],
     file: &ClassFile<'a>,
 ) -> Result<Members<'a>, AllocError>
-    requires hashes { AreHashes seed file.now.constant_pool hashes.now }
     ensures { IfOk result (λ members. all_found (method_at file.now.constant_pool) (methods_of file.now) ≡ Some members) }
 {
     let mut gathered = Gathered::with_capacity(alloc, state, file.method_count())?;
     let mut places = vec![in alloc; None; usize::from(file.pool().count())]?;
     for place in 0..file.method_count() {
-        add_method(&mut gathered, &mut places, seed, hashes, file, place)?;
+        add_method(&mut gathered, &mut places, file, place)?;
     }
     Ok(gathered.members())
 }
@@ -172,28 +150,22 @@ fn methods_in<'a>(
 fn fields_of<'a>(
     alloc: Global,
     state: RandomState,
-    seed: u64,
-    hashes: &[u64],
     file: &ClassFile<'a>,
 ) -> Result<Members<'a>, AllocError>
-    requires hashes { AreHashes seed file.now.constant_pool hashes.now }
     ensures { IfOk result (λ members. (class : Class) → class_of file.now ≡ Some class → members ≡ map field_seen class.fields) }
 {
     file.is_well_formed();
-    fields_in(alloc, state, seed, hashes, file.pool(), file.fields())
+    fields_in(alloc, state, file.pool(), file.fields())
 }
 
 fn methods_of<'a>(
     alloc: Global,
     state: RandomState,
-    seed: u64,
-    hashes: &[u64],
     file: &ClassFile<'a>,
 ) -> Result<Members<'a>, AllocError>
-    requires hashes { AreHashes seed file.now.constant_pool hashes.now }
     ensures { IfOk result (λ members. (class : Class) → class_of file.now ≡ Some class → members ≡ map method_seen class.methods) }
 {
-    methods_in(alloc, state, seed, hashes, file)
+    methods_in(alloc, state, file)
 }
 
 fn super_name<'a>(file: &ClassFile<'a>) -> Option<&'a [u8]>
@@ -222,11 +194,9 @@ pub(crate) fn kept_of_file<'a>(
 ) -> Result<Kept<'a>, AllocError>
     ensures { IfOk result (λ kept. (class : Class) → class_of file.now ≡ Some class → Keeps class kept) }
 {
-    let seed = seed_of(state);
-    let hashes = pool_hashes(alloc, seed, file.pool())?;
     let name = file.name();
-    let fields = fields_of(alloc, state, seed, &hashes, file)?;
-    let methods = methods_of(alloc, state, seed, &hashes, file)?;
+    let fields = fields_of(alloc, state, file)?;
+    let methods = methods_of(alloc, state, file)?;
     Ok(Kept {
         major: file.major(),
         access_flags: file.access_flags().0,

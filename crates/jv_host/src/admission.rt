@@ -14,7 +14,7 @@ ghost use Rattle.jv_host.specs.Inside.Holding.{admission_of, IsSomeHeld, GoesOn,
 use crate::files::GuestFiles;
 use crate::limits::INPUT_BYTES;
 use jv_interp::{Budget, Guest};
-use jv_library::{KnownLibrary, verify_files};
+use jv_library::KnownLibrary;
 use jv_limits::{AdmitFault, FeedFault};
 use jv_meaning_machine::{ended_guest_stays, judged_by_verdicts, one_judged};
 use jv_meaning_world::one_content;
@@ -102,7 +102,7 @@ pub(crate) fn begin<'a, S: Store>(
 {
     one_content();
     judged_by_verdicts();
-    let Ok(judged) = verify_files(alloc, state, files.system, files.files) else {
+    let Ok(judged) = known.verify_files(alloc, state, files.system, files.files) else {
         return Err(AdmitFault::HostMemory);
     };
     let Ok(stands) = known.stands(alloc, state, files.system, &judged) else {

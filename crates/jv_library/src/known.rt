@@ -1,6 +1,6 @@
 //! What a host knows of its library.
 
-ghost use Rattle.std.specs.Prelude.{◌≡◌, ◌↔◌, ℕ, List, [], None, Ok, true, IfOk, IfSome, IsTrue};
+ghost use Rattle.std.specs.Prelude.{◌≡◌, ◌↔◌, ℕ, List, [], None, Ok, true, IfOk, IfSome, IsTrue, map};
 ghost use Rattle.jv_meaning_machine.specs.Alone.{Stands};
 ghost use Rattle.jv_meaning_world.specs.Library.{with_library};
 ghost use Rattle.jv_verify.specs.Files.{AreFilesOf};
@@ -8,10 +8,10 @@ ghost use Rattle.jv_library.specs.Inside.Known.{IsFoundOf, StandsBesideOne};
 
 use crate::same::are_same;
 use jv_closed::is_closed;
-use jv_loader::SystemFiles;
+use jv_loader::{HostClasses, OutOfMemory, SystemFiles};
 use jv_meaning_library::closed_stands_once;
 use jv_meaning_world::one_content;
-use jv_verify::Verified;
+use jv_verify::{Verified, verify_files_beside};
 use std::alloc::{AllocError, Global};
 use std::hash::RandomState;
 use std::marker::Model;
@@ -34,10 +34,12 @@ pub(crate) struct Asked<'a> {
     pub(crate) found: Found,
 }
 
-/// What was found of the library that was asked of last. In contracts it is the files of that, where one was.
+/// What was found of the library that was asked of last, and the classes that were read last, with those of the system. In contracts it is
+/// the files of the library that was asked of, where one was.
 #[derive(Drop)]
 pub struct KnownLibrary<'a> {
     asked: Option<Asked<'a>>,
+    read: Option<HostClasses<'a>>,
 }
 
 impl<'a> Model for KnownLibrary<'a> {
@@ -56,7 +58,10 @@ impl<'a> KnownLibrary<'a> {
     pub fn new() -> KnownLibrary<'a>
         ensures { result ≡ None }
     {
-        KnownLibrary { asked: None }
+        KnownLibrary {
+            asked: None,
+            read: None,
+        }
     }
 
     /// What was found of the library of these files, where it is the one that was asked of last.
@@ -69,16 +74,52 @@ impl<'a> KnownLibrary<'a> {
         }
     }
 
-    /// What is known of the library of these files.
+    /// The classes that were read last, where a host with these files gives them.
+    fn classes(&self, system: &SystemFiles) -> Option<&HostClasses<'a>>
+        ensures { IfSome result (λ classes. classes.now ≡ system.now) }
+    {
+        match &self.read {
+            Some(classes) if are_same(classes.system(), system) => Some(classes),
+            _ => None,
+        }
+    }
+
+    /// What is known of the library of these files, but for the classes that were read.
     pub fn about<'b>(&self, system: &'b SystemFiles) -> KnownLibrary<'b>
         ensures { IfSome result (λ files. files ≡ system.now) }
     {
         match self.found(system) {
             Some(found) => KnownLibrary {
                 asked: Some(Asked { system, found }),
+                read: None,
             },
             None => KnownLibrary::new(),
         }
+    }
+
+    /// Reads the files of a guest, and finds the verdict on each beside the classes that its host gives (JVMS 4.10, 5.3), which are read
+    /// where those that were read last are others. Names are hashed with the state.
+    ///
+    /// # Errors
+    ///
+    /// Where the host had no memory for the classes, or for what is known of them.
+    pub fn verify_files(
+        &mut self,
+        alloc: Global,
+        state: RandomState,
+        system: &'a SystemFiles,
+        files: &'a [&'a [u8]],
+    ) -> Result<Verified<'a>, OutOfMemory>
+        ensures verdicts { IfOk result (AreFilesOf system.now (map (λ file. file.now) files.now)) }
+        ensures same { self.new ≡ self.old }
+    {
+        if let Some(classes) = self.classes(system) {
+            return verify_files_beside(alloc, state, classes, files);
+        }
+        let classes = HostClasses::read(alloc, state, system)?;
+        let verified = verify_files_beside(alloc, state, &classes, files)?;
+        self.read = Some(classes);
+        Ok(verified)
     }
 
     /// Judges a library beside a guest's files, of which this was found, and keeps that it stands there, if it does.

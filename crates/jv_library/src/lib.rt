@@ -4,5 +4,4 @@
 mod known;
 mod same;
 
-pub use jv_verify::{Verified, verify_files};
 pub use known::KnownLibrary;

@@ -1,6 +1,6 @@
 //! A guest's classes, loaded.
 
-ghost use Rattle.std.specs.Prelude.{◌≡◌, ◌<◌, ◌≤◌, Some, IfOk, IfSome, length, slice_get};
+ghost use Rattle.std.specs.Prelude.{◌≡◌, ◌<◌, ◌≤◌, ℕ, List, Some, IfOk, IfSome, length, slice_get};
 ghost use Rattle.jv_meaning_world.specs.LookUps.{lookup_field, lookup_method, is_subclass};
 ghost use Rattle.jv_meaning_world.specs.Numbers.{HoldsAtBoth, HoldsAtNumber, number_named, superclass_number};
 ghost use Rattle.jv_lookups.specs.Places.{IsFieldPlace, IsMethodPlace, IsFieldLookedUp, IsMethodLookedUp};
@@ -11,14 +11,16 @@ ghost use Rattle.jv_loader.specs.Loading.{AreLoaded};
 ghost use Rattle.jv_loader.specs.Straight.{AreStraight};
 ghost use Rattle.jv_classes.specs.Inside.KeptNames.{texts_of};
 ghost use Rattle.jv_loader.specs.Inside.Files.{IsOfFiles};
+ghost use Rattle.jv_loader.specs.Inside.Library.{IsHostList};
 ghost use Rattle.jv_loader.specs.Inside.Searches.{IsSearch};
 
 use crate::entry::put_files;
 use crate::files::SystemFiles;
+use crate::host_classes::HostClasses;
 use crate::out_of_memory::OutOfMemory;
 use crate::searches::searches_of;
 use crate::verdicts::{first_verdicts, verdict_on, verdicts_of};
-use jv_classes::{ClassTable, Text};
+use jv_classes::{ClassList, ClassTable, Text};
 use jv_lookups::{Defaults, Place, lookup_field, lookup_method, superinterface_defaults};
 use jv_meaning_world::{LoadVerdict, above_by_ways, loadable_by_all};
 use std::alloc::{AllocError, Global};
@@ -71,6 +73,32 @@ fn are_straight(table: &ClassTable<'_>)
     let _table = table;
 }
 
+/// The classes of a guest's files behind those in a list, which a host gives.
+fn classes_behind<'a>(
+    alloc: Global,
+    state: RandomState,
+    list: ClassList<'a>,
+    files: &'a [&'a [u8]],
+) -> Result<Classes<'a>, OutOfMemory>
+    requires { (library : List (List ℕ)) × IsHostList library list }
+    ensures { (library : List (List ℕ)) → IsHostList library list.entry
+        → IfOk result (λ classes. AreLoaded library (texts_of files.now) classes) }
+{
+    let mut list = list;
+    let host = list.count();
+    let entries = put_files(alloc, state, &mut list, files)?;
+    let table = ClassTable::of(alloc, list)?;
+    let verdicts = verdicts_of(alloc, state, &table, &entries)?;
+    let searches = searches_of(alloc, &table)?;
+    are_straight(&table);
+    Ok(Classes {
+        table,
+        host,
+        verdicts,
+        searches,
+    })
+}
+
 impl<'a> Classes<'a> {
     /// Reads the files of a guest, and makes the table of their classes behind those that its host gives: the system's, and those of a
     /// library that stand in front; names are hashed with the state.
@@ -86,19 +114,25 @@ impl<'a> Classes<'a> {
     ) -> Result<Classes<'a>, OutOfMemory>
         ensures { IfOk result (λ classes. AreLoaded system.now (texts_of files.now) classes) }
     {
-        let mut list = system.list(alloc, state)?;
-        let host = list.count();
-        let entries = put_files(alloc, state, &mut list, files)?;
-        let table = ClassTable::of(alloc, list)?;
-        let verdicts = verdicts_of(alloc, state, &table, &entries)?;
-        let searches = searches_of(alloc, &table)?;
-        are_straight(&table);
-        Ok(Classes {
-            table,
-            host,
-            verdicts,
-            searches,
-        })
+        let list = system.list(alloc, state)?;
+        classes_behind(alloc, state, list, files)
+    }
+
+    /// The same behind classes that were read once, for guests of one library; what was read of them is shared.
+    ///
+    /// # Errors
+    ///
+    /// As of `load`.
+    pub fn load_beside(
+        alloc: Global,
+        state: RandomState,
+        host: &HostClasses<'a>,
+        files: &'a [&'a [u8]],
+    ) -> Result<Classes<'a>, OutOfMemory>
+        ensures { IfOk result (λ classes. AreLoaded host.now (texts_of files.now) classes) }
+    {
+        let list = host.list(alloc, state)?;
+        classes_behind(alloc, state, list, files)
     }
 
     /// The classes by number: those of the system, and those of the files in their order.

@@ -11,6 +11,7 @@ mod flag;
 mod given;
 mod header;
 mod host;
+mod host_classes;
 mod interface;
 mod law;
 mod lending;
@@ -30,6 +31,7 @@ mod written;
 
 pub use classes::Classes;
 pub use files::{SystemFiles, system_files, system_with_library};
+pub use host_classes::HostClasses;
 pub use jv_classes::{ClassTable, LoadedClass, Member};
 pub use jv_lookups::{Defaults, Place, class_method};
 pub use jv_meaning_world::LoadVerdict;

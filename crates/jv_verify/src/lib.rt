@@ -20,4 +20,4 @@ pub use jv_verify_pass::{
     Difference, FrameSink, FramedInsn, FramesBefore, NamedFrame, NamedType, NamedUnmet,
 };
 pub use jv_verify_types::{ConstantTypes, CurrentClass};
-pub use verified::{Verified, verify, verify_files};
+pub use verified::{Verified, verify, verify_files, verify_files_beside};

@@ -12,7 +12,7 @@ ghost use Rattle.jv_verify.specs.Files.{IsSystemAccepted, StandingAreTyped};
 ghost use Rattle.jv_verify.specs.Inside.Numbered.{AreOfLibrary};
 
 use crate::files::{verdict_of, verdicts_of};
-use jv_loader::{Classes, OutOfMemory, SystemFiles};
+use jv_loader::{Classes, HostClasses, OutOfMemory, SystemFiles};
 use jv_meaning_typing::{Verdict, one_judgement};
 use jv_sound_system::system_is_accepted;
 use std::alloc::{AllocError, Global};
@@ -87,6 +87,23 @@ pub fn verify_files<'a>(
     ensures { IfOk result (AreFilesOf system.now (map (λ file. file.now) files.now)) }
 {
     let classes = Classes::load(alloc, state, system, files)?;
+    Ok(verify(alloc, state, classes)?)
+}
+
+/// The same beside classes that were read once, for guests of one library.
+///
+/// # Errors
+///
+/// As of `verify_files`.
+pub fn verify_files_beside<'a>(
+    alloc: Global,
+    state: RandomState,
+    host: &HostClasses<'a>,
+    files: &'a [&'a [u8]],
+) -> Result<Verified<'a>, OutOfMemory>
+    ensures { IfOk result (AreFilesOf host.now (map (λ file. file.now) files.now)) }
+{
+    let classes = Classes::load_beside(alloc, state, host, files)?;
     Ok(verify(alloc, state, classes)?)
 }
 

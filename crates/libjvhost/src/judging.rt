@@ -103,7 +103,9 @@ where
     ensures { JudgesSo (files_told system.now guest.entry) (budget_told guest.entry) n room result }
 {
     let mut host = Host::new(alloc, state);
-    host.know(known.about(system));
+    // For as long as the guest alone.
+    let here: &'a SystemFiles = system;
+    host.know(known.about(here));
     let (files, budget) = (files_of(system, guest), budget_of(&guest));
     let done = play(alloc, &mut host, files, budget, n, room);
     *known = host.known().about(system);

@@ -2,6 +2,7 @@ use Rattle.std.proofs.Common.{◌≡◌, ◌<◌, Option, ℕ, length, ◌∙◌
 use Rattle.std.specs.Prelude.{◌&&◌, position, slice_get, IfSome}
 use Rattle.std.specs.Option.{option_and_then}
 use Rattle.std.specs.Str.{bytes_eq}
+use Rattle.std.specs.Arc.{arc_value}
 use Rattle.jv_class.specs.Class.{Field}
 use Rattle.jv_classes.specs.Inside.Kept.{class_of_file}
 use Rattle.jv_classes.specs.Inside.Seen.{field_seen, declares}
@@ -14,9 +15,10 @@ returns c =
     let fields = c.args.self.now.class.fields in
     let place : c.place_of.result ≡ position test fields =
     c.place_of.ensures
+    ∙ (ap (λ read. position (declares c.args.name.now c.args.descriptor.now) read.kept.fields) c.deref.ensures
     ∙ (ap (position (declares c.args.name.now c.args.descriptor.now)) c.self.invariant.keeps.fields
-    ∙ (sym (place_seen (declares c.args.name.now c.args.descriptor.now) test field_seen (λ m. refl) (class_of_file c.self.inside.file).fields)
-    ∙ ap (λ l. position test l.class.fields) c.self.view_is)) in
+    ∙ (sym (place_seen (declares c.args.name.now c.args.descriptor.now) test field_seen (λ m. refl) (class_of_file (arc_value c.self.inside.read).file).fields)
+    ∙ ap (λ l. position test l.class.fields) c.self.view_is))) in
     record {
       place = place;
       found = ap (option_and_then (slice_get fields)) place ∙ found_there test fields;

@@ -4,36 +4,35 @@ use Rattle.jv_loader.specs.Loading.{AreLoaded}
 use Rattle.jv_classes.specs.Inside.KeptNames.{texts_of}
 use Rattle.jv_loader.specs.Inside.Files.{IsOfFiles, IsPlace, verdict_of_entry}
 use Rattle.jv_loader.proofs.Whole.{alone, of_files, places, loaded_all}
-use Rattle.jv_loader.proofs.classes.Classes.load.Goals as goal
+use Rattle.jv_loader.proofs.classes.classes_behind.Goals as goal
 
 pub of-requires : goal.of-requires
 of-requires c =
-    let host = c.in_ok-list.ensures in
-    alone c.args.system.now host.given host.gives (texts_of c.args.files.now) c.in_ok-list.list c.put_files.new.list c.in_ok-entries.entries.items host.list_is
+    let host = c.requires.1 in
+    alone c.requires.0 host.given host.gives (texts_of c.args.files.now) c.args.list c.put_files.new.list c.in_ok-entries.entries.items host.list_is
     c.in_ok-entries.ensures
 
 pub verdicts_of-requires : goal.verdicts_of-requires
 verdicts_of-requires c =
-    let host = c.in_ok-list.ensures in
+    let host = c.requires.1 in
     let all =
-    places c.args.system.now host.given host.gives (texts_of c.args.files.now) c.in_ok-list.list c.put_files.new.list c.in_ok-entries.entries.items
+    places c.requires.0 host.given host.gives (texts_of c.args.files.now) c.args.list c.put_files.new.list c.in_ok-entries.entries.items
     host.list_is c.in_ok-entries.ensures in
     subst (λ es. All (IsPlace c.in_ok-table.table) es) (sym c.deref.ensures.value) (subst (λ w. All (IsPlace w) c.in_ok-entries.entries.items) (sym c.in_ok-table.ensures) all)
 
 pub returns : goal.returns
-returns c =
-    let host = c.in_ok-list.ensures in
+returns c = λ library host.
     let told = c.in_ok-verdicts.ensures ∙ (ap (λ w. map (verdict_of_entry w) c.deref.result.now) c.in_ok-table.ensures ∙ ap (map (verdict_of_entry c.put_files.new.list)) c.deref.ensures.value) in
     let all =
-    loaded_all c.args.system.now host.given host.gives (texts_of c.args.files.now) c.in_ok-list.list c.put_files.new.list c.in_ok-entries.entries.items
+    loaded_all library host.given host.gives (texts_of c.args.files.now) c.args.list c.put_files.new.list c.in_ok-entries.entries.items
     host.list_is c.in_ok-entries.ensures c.count-host.result c.in_ok-verdicts.verdicts.items c.count-host.ensures told in
-    subst (λ w. AreLoaded c.args.system.now (texts_of c.args.files.now) (record { world = w; host = c.count-host.result; verdicts = c.in_ok-verdicts.verdicts.items }))
+    subst (λ w. AreLoaded library (texts_of c.args.files.now) (record { world = w; host = c.count-host.result; verdicts = c.in_ok-verdicts.verdicts.items }))
     (sym c.in_ok-table.ensures) all
 
 pub are_straight-requires : goal.are_straight-requires
 are_straight-requires c =
-    let host = c.in_ok-list.ensures in
+    let host = c.requires.1 in
     let all =
-    of_files c.args.system.now host.given host.gives (texts_of c.args.files.now) c.in_ok-list.list c.put_files.new.list c.in_ok-entries.entries.items
+    of_files c.requires.0 host.given host.gives (texts_of c.args.files.now) c.args.list c.put_files.new.list c.in_ok-entries.entries.items
     host.list_is c.in_ok-entries.ensures in
     subst IsOfFiles (sym c.in_ok-table.ensures) all
