@@ -24,32 +24,29 @@ use Rattle.jv_verify_known.proofs.Words.{all_flow_is, no_room, word_past}
 -- ---- a stretch
 
 module _ (types : EntryTypes) (locals : List Item) (stretch : List FrameEntry) where
-  flow_at : (k to : ℕ) (local item : Item) (flow : Bool) → slice_get locals k ≡ Some local
-      → typed (names_of_types types) item ≡ type_of_entry types (get_or stretch (to - 1 - k) entries.Top)
-      → flow ≡ flows (world_of_types types) (typed (names_of_types types) local) (typed (names_of_types types) item)
+  flow_at : (k to : ℕ) (local : Item) (flow : Bool) → slice_get locals k ≡ Some local
+      → flow ≡ flows (world_of_types types) (typed (names_of_types types) local) (type_of_entry types (get_or stretch (to - 1 - k) entries.Top))
       → flows (world_of_types types) (local_at types locals k) (type_of_entry types (get_or stretch (to - 1 - k) entries.Top)) ≡ flow
-  flow_at k to local item flow there is found =
+  flow_at k to local flow there found =
       ap (λ t. flows (world_of_types types) (typed (names_of_types types) t) (type_of_entry types (get_or stretch (to - 1 - k) entries.Top)))
       (get_or_from_slice_get locals k local variants.Top there)
-      ∙ (ap (flows (world_of_types types) (typed (names_of_types types) local)) (sym is) ∙ sym found)
+      ∙ sym found
 
-  pub stretch_more : (below at to : ℕ) (local item : Item) (flow : Bool) → at ≡ below + 1 → slice_get locals below ≡ Some local
-      → typed (names_of_types types) item ≡ type_of_entry types (get_or stretch (to - 1 - below) entries.Top)
-      → flow ≡ flows (world_of_types types) (typed (names_of_types types) local) (typed (names_of_types types) item) → flow ≡ true
-      → FlowToStretch types locals stretch at to → FlowToStretch types locals stretch below to
-  stretch_more below at to local item flow next there is found flow_is all k least less = elim (cases_lt k at) [
+  pub stretch_more : (below at to : ℕ) (local : Item) (flow : Bool) → at ≡ below + 1 → slice_get locals below ≡ Some local
+      → flow ≡ flows (world_of_types types) (typed (names_of_types types) local) (type_of_entry types (get_or stretch (to - 1 - below) entries.Top))
+      → flow ≡ true → FlowToStretch types locals stretch at to → FlowToStretch types locals stretch below to
+  stretch_more below at to local flow next there found flow_is all k least less = elim (cases_lt k at) [
     | inr more ↦ all k more less
     | inl low ↦
         let same : below ≡ k = omega (arith, next, least, low) in
         subst (λ n. flows (world_of_types types) (local_at types locals n) (type_of_entry types (get_or stretch (to - 1 - n) entries.Top)) ≡ true) same
-        (flow_at below to local item flow there is found ∙ flow_is)
+        (flow_at below to local flow there found ∙ flow_is)
   ]
 
-  pub stretch_not : (below to : ℕ) (local item : Item) (flow : Bool) (from : ℕ) → from ≤ below → below < to → slice_get locals below ≡ Some local
-      → typed (names_of_types types) item ≡ type_of_entry types (get_or stretch (to - 1 - below) entries.Top)
-      → flow ≡ flows (world_of_types types) (typed (names_of_types types) local) (typed (names_of_types types) item) → flow ≡ false
-      → OneFlowsNotToStretch types locals stretch from to
-  stretch_not below to local item flow from least less there is found flow_is = (below, least, less, flow_at below to local item flow there is found ∙ flow_is)
+  pub stretch_not : (below to : ℕ) (local : Item) (flow : Bool) (from : ℕ) → from ≤ below → below < to → slice_get locals below ≡ Some local
+      → flow ≡ flows (world_of_types types) (typed (names_of_types types) local) (type_of_entry types (get_or stretch (to - 1 - below) entries.Top))
+      → flow ≡ false → OneFlowsNotToStretch types locals stretch from to
+  stretch_not below to local flow from least less there found flow_is = (below, least, less, flow_at below to local flow there found ∙ flow_is)
 
 -- ---- words of a frame
 

@@ -4,7 +4,7 @@ ghost use Rattle.std.specs.Prelude.{◌≡◌, ◌≤◌, ◌<◌, ◌*◌, ◌-
 ghost use Rattle.jv_stackmap.specs.declared.entry.FrameEntry.TheVariants as entries;
 ghost use Rattle.jv_meaning_world.specs.Flow.{flows};
 ghost use Rattle.jv_verify_types.specs.Typed.{typed};
-ghost use Rattle.jv_verify_types.specs.Mapped.{names_of_types, world_of_types};
+ghost use Rattle.jv_verify_types.specs.Mapped.{names_of_types, type_of_entry, world_of_types};
 ghost use Rattle.jv_verify_maps.specs.Words.{words_at};
 ghost use Rattle.jv_verify_known.specs.Inside.Flowing.{FlowBetween, FlowToStretch, FlowWhereWritten, OneFlowsNot, OneFlowsNotToStretch};
 
@@ -34,6 +34,7 @@ pub(crate) fn is_same(one: Item, other: Item) -> bool
 }
 
 /// Whether a type flows to another: where the two are known to be one, no table is asked.
+#[inline(never)]
 fn type_flows(types: &EntryTypes<'_, '_, '_>, from: Item, to: Item) -> bool
     ensures { result ≡ flows (world_of_types types.now) (typed (names_of_types types.now) from) (typed (names_of_types types.now) to) }
 {
@@ -41,6 +42,18 @@ fn type_flows(types: &EntryTypes<'_, '_, '_>, from: Item, to: Item) -> bool
         return true;
     }
     types.names().flows(from, to)
+}
+
+/// Whether a type flows to that of an entry: to top and of an int to an int, as most do, without a call.
+#[inline(always)]
+fn entry_flows(types: &EntryTypes<'_, '_, '_>, from: Item, entry: FrameEntry) -> bool
+    ensures { result ≡ flows (world_of_types types.now) (typed (names_of_types types.now) from) (type_of_entry types.now entry) }
+{
+    match (from, entry) {
+        (_, FrameEntry::Top) => true,
+        (VerificationTypeOf::Int, FrameEntry::Int) => true,
+        _ => type_flows(types, from, types.item(entry)),
+    }
 }
 
 /// The entry of a stretch of words before one, which has the last first.
@@ -74,8 +87,7 @@ fn stretch_flows(
         let Some(local) = frame.local(at) else {
             return false;
         };
-        let item = types.item(entry_at(stretch, to, at));
-        if !type_flows(types, local, item) {
+        if !entry_flows(types, local, entry_at(stretch, to, at)) {
             return false;
         }
     }

@@ -1,12 +1,11 @@
 -- Writes that are noted.
-use Rattle.std.proofs.Common.{◌≡◌, ◌≢◌, ◌⊎◌, inl, inr, ℕ, suc, ◌+◌, ◌-◌, ◌<◌, ◌≤◌, ◌/◌, Bool, true, false, ◌&&◌, ◌||◌, ◌==◌, List, [], ◌∷◌, ◌++◌, length, get_or, set, take, refl, sym, ap, subst, ◌∙◌, arith}
+use Rattle.std.proofs.Common.{◌≡◌, ◌≢◌, ◌⊎◌, inl, inr, ℕ, suc, ◌+◌, ◌-◌, ◌<◌, ◌≤◌, ◌/◌, Bool, true, false, ◌&&◌, ◌||◌, ◌==◌, List, [], ◌∷◌, ◌++◌, length, get_or, set, take, refl, sym, ap, ◌∙◌, arith}
 use Rattle.std.specs.Prelude.{nat_le}
-use Rattle.std.specs.List.{list_any}
 use Rattle.std.proofs.lemmas.Bool.{cases_lt, eqb-false, eqb-true, leb-true}
 use Rattle.std.proofs.lemmas.Grind.{get_or-set_at}
 use Rattle.std.proofs.lemmas.List.{get_or-set_other, get_or_past, length-set, take_more}
 use Rattle.jv_verify_rules.specs.Laws.{is_beside}
-use Rattle.jv_verify_known.specs.Known.{number_at, with_writes, written_at, KnownLocals, StaysKnown, Writes}
+use Rattle.jv_verify_known.specs.Known.{number_at, with_writes, written_at, KnownLocals, StaysKnown}
 use Rattle.jv_verify_open.proofs.Words.{same_or}
 use Rattle.jv_verify_pass.specs.Inside.Changes.{is_written}
 use Rattle.jv_verify_pass.specs.Inside.Seen.{NotesWrites}

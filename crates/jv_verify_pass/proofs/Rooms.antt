@@ -1,5 +1,5 @@
 -- No frame of the map has more words than there are local variables.
-use Rattle.std.proofs.Common.{◌≡◌, inl, inr, ℕ, ◌<◌, ◌≤◌, Bool, true, false, List, [], length, map, get_or, Some, None, refl, sym, ap, subst, ◌∙◌, arith}
+use Rattle.std.proofs.Common.{◌≡◌, inl, inr, ℕ, ◌<◌, ◌≤◌, Bool, true, false, List, [], length, get_or, Some, None, refl, ap, subst, ◌∙◌, arith}
 use Rattle.std.specs.Prelude.{slice_get}
 use Rattle.std.proofs.lemmas.List.{get_or_past, length-map}
 use Rattle.std.proofs.lemmas.List.Elements.{All-get_or}
@@ -10,7 +10,7 @@ use Rattle.jv_meaning_world.specs.Flow.{flows}
 use Rattle.jv_verify_types.specs.Numbered.{Item, NumberFrame}
 use Rattle.jv_verify_types.specs.Typed.{typed_all}
 use Rattle.jv_verify_types.specs.Mapped.{expanded_entries, locals_flow_to, world_of_types}
-use Rattle.jv_verify_maps.specs.Words.{MapWords, frame_by_words, map_by_words, words_at}
+use Rattle.jv_verify_maps.specs.Words.{MapWords, frame_by_words, words_at}
 use Rattle.jv_verify_maps.proofs.Laying.{words_counted}
 use Rattle.jv_verify_known.specs.Known as known
 use Rattle.jv_verify_known.specs.Known.{local_at, word_at}

@@ -1,5 +1,5 @@
 -- What is known beside a frame, where an instruction goes over it, and where it is made one of the map.
-use Rattle.std.proofs.Common.{◌≡◌, inl, inr, ℕ, zero, suc, ◌-◌, ◌*◌, ◌<◌, ◌≤◌, Bool, true, false, not, ◌&&◌, ◌||◌, List, [], ◌∷◌, length, map, get_or, Option, Some, None, refl, sym, ap, subst, ◌∙◌, arith}
+use Rattle.std.proofs.Common.{◌≡◌, inl, inr, ℕ, zero, suc, ◌-◌, ◌*◌, ◌<◌, ◌≤◌, Bool, true, false, ◌&&◌, List, [], ◌∷◌, length, get_or, refl, sym, ap, subst, ◌∙◌, arith}
 use Rattle.std.specs.Prelude.{slice_get, Result, Ok, Err, OnOk}
 use Rattle.std.specs.List.{flat_map}
 use Rattle.std.proofs.lemmas.List.{get_or_past}
@@ -8,15 +8,15 @@ use Rattle.std.proofs.lemmas.Bool.{cases_lt}
 use Rattle.jv_stackmap.specs.declared.verification.VerificationTypeOf.TheVariants as variants
 use Rattle.jv_stackmap.specs.Types.{FrameType, words}
 use Rattle.jv_verify_types.specs.Mapped.{initial_types}
-use Rattle.jv_verify_types.specs.Typed.{typed, typed_all}
+use Rattle.jv_verify_types.specs.Typed.{typed_all}
 use Rattle.jv_verify_types.specs.Numbered.{Item, NumberFrame}
 use Rattle.jv_verify_maps.specs.Words.{MapWords}
-use Rattle.jv_verify_known.specs.Known.{local_at, number_at, with_next, AreNoted, AreTopsFrom, DifferAtWrites, HoldsSince, IsKnown, KnownLocals, StaysBesideWrites, Writes}
+use Rattle.jv_verify_known.specs.Known.{local_at, number_at, with_next, AreNoted, AreTopsFrom, DifferAtWrites, KnownLocals, StaysBesideWrites, Writes}
 use Rattle.jv_verify_known.proofs.Words.{local_is, local_past, padded, widths}
-use Rattle.jv_verify_open.specs.Open.{end_of, FlowsToOpen, HaveFlowed, OpenFrames}
+use Rattle.jv_verify_open.specs.Open.{FlowsToOpen, HaveFlowed, OpenFrames}
 use Rattle.jv_verify_open.proofs.Later.{later_wanting}
 use Rattle.jv_verify_pass.specs.Pass.{Pass, names_in}
-use Rattle.jv_verify_pass.specs.Inside.Opening.{Openings, AreHandled, AreOpenings, IsBegun, IsOpenBy}
+use Rattle.jv_verify_pass.specs.Inside.Opening.{Openings, AreHandled, AreOpenings}
 use Rattle.jv_verify_pass.specs.Inside.Kept.{IsPass}
 use Rattle.jv_verify_pass.specs.Inside.Seen.{BeginsWith, IsSeen, NotesWrites}
 use Rattle.jv_verify_pass.specs.Inside.Stacks.{AreFlowed}

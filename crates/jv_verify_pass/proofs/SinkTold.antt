@@ -1,7 +1,6 @@
 -- What a sink took, one instruction after the other.
 use Rattle.std.proofs.Common.{◌≡◌, ℕ, ◌<◌, ◌≤◌, Bool, true, false, List, [], ◌∷◌, ◌++◌, Option, Some, length, refl, sym, ap, subst, ◌∙◌, inl, inr, arith}
 use Rattle.std.specs.Prelude.{IsTrue}
-use Rattle.std.specs.List.{FoldsTo}
 use Rattle.std.specs.Option.{option_map}
 use Rattle.std.proofs.lemmas.Fn.{FoldsTo-push}
 use Rattle.jv_stackmap.specs.Frames.{Frame, PlacedFrame}
@@ -14,7 +13,7 @@ use Rattle.jv_meaning_typing.specs.Typing.{IsTypingBelow, frame_at}
 use Rattle.jv_meaning_typing.specs.Judgement.{BreaksFirst}
 use Rattle.jv_meaning_typing.proofs.Agreement.{agree, safe_not_broken}
 use Rattle.jv_verify_pass.specs.Before.{AreFramed, Falls, FramesStand, IsTypedBelow, TookAll, seen_frame}
-use Rattle.jv_verify_pass.specs.Pass.{InPass, IsOfPass, Pass, maps_of}
+use Rattle.jv_verify_pass.specs.Pass.{InPass, Pass, maps_of}
 use Rattle.jv_verify_pass.specs.Inside.Taken.{TakesFramed}
 use Rattle.jv_verify_pass.specs.Inside.Walk.{IsStep, Reaches}
 use Rattle.jv_verify_pass.specs.declared.sink.FramedInsn.{FramedInsn}

@@ -1,6 +1,6 @@
 //! A method whose code is checked.
 
-ghost use Rattle.std.specs.Prelude.{◌≡◌, ◌≤◌, ℕ, List, slice_get, Some, IfSome};
+ghost use Rattle.std.specs.Prelude.{◌≡◌, ◌≤◌, ◌+◌, ℕ, List, slice_get, None, Some, IfSome, IsTrue};
 ghost use Rattle.std.specs.List.{All};
 ghost use Rattle.std.specs.Option.{option_map};
 ghost use Rattle.jv_format.specs.Handlers.{handlers_of};
@@ -9,6 +9,7 @@ ghost use Rattle.jv_meaning_typing.specs.Environment.{Environment};
 ghost use Rattle.jv_meaning_typing.specs.Typing.{catch_type, frame_at};
 ghost use Rattle.jv_verify_types.specs.Typed.{typed, typed_all};
 ghost use Rattle.jv_verify_pass.specs.Pass.{IsOfPass, HasRoom, names_in, IsFrameAt};
+ghost use Rattle.jv_verify_pass.specs.Inside.Walk.{AreBare};
 
 use crate::catching::catch_type;
 use jv_format::ExceptionTable;
@@ -111,6 +112,59 @@ impl<'p, 'm, 'e, 't, 'a> Pass<'p, 'm, 'e, 't, 'a> {
         offsets_rise();
         let place = self.frames.place_of(offset)?;
         Some((place, self.frames.frame_at(place)))
+    }
+
+    /// The same, where it may be known that none is there.
+    #[inline(always)]
+    pub(crate) fn map_unless(&self, bare: bool, offset: u32) -> Option<(usize, MapFrame<'p>)>
+        requires { IsTrue bare → IsFrameAt self.now offset None }
+        ensures frame { IsFrameAt self.now offset (option_map (λ x. x.1) result) }
+        ensures room { IfSome result (λ x. HasRoom self.now.types self.now.max_locals x.1) }
+        ensures place { IfSome result (λ x. slice_get self.now.frames x.0 ≡ Some x.1) }
+    {
+        if bare {
+            return None;
+        }
+        self.map_at(offset)
+    }
+
+    /// The offset of the first frame of the stack map; a greater one than any where there is none.
+    pub(crate) fn first_map(&self) -> u32
+        ensures { AreBare self.now 0 result }
+    {
+        offsets_rise();
+        if self.frames.count() == 0 {
+            return u32::MAX;
+        }
+        self.frames.frame_at(0).offset()
+    }
+
+    /// The same of the next frame behind one that stands at an offset.
+    fn next_map(&self, offset: u32) -> u32
+        ensures { AreBare self.now (offset + 1) result }
+    {
+        offsets_rise();
+        let count = self.frames.count();
+        let Some(place) = self.frames.place_of(offset) else {
+            return 0;
+        };
+        let next = place + 1;
+        if next == count {
+            return u32::MAX;
+        }
+        self.frames.frame_at(next).offset()
+    }
+
+    /// Up to which offset the stack map has no frame behind an instruction, where it has none from there on up to another.
+    #[inline(always)]
+    pub(crate) fn bare_behind(&self, offset: u32, until: u32) -> u32
+        requires { AreBare self.now offset until }
+        ensures { AreBare self.now (offset + 1) result }
+    {
+        if offset < until {
+            return until;
+        }
+        self.next_map(offset)
     }
 
     /// The type that a handler with this index catches; `None` where the index names none.

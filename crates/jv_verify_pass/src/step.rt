@@ -8,7 +8,7 @@ ghost use Rattle.jv_meaning_typing.specs.Rule.{without_object};
 ghost use Rattle.jv_meaning_typing.specs.Typing.{handlers_hold};
 ghost use Rattle.jv_verify_types.specs.Typed.{typed, typed_all};
 ghost use Rattle.jv_verify_types.specs.Numbered.{frame_of};
-ghost use Rattle.jv_verify_pass.specs.Pass.{IsOfPass, InPass, maps_of, names_in, Tests};
+ghost use Rattle.jv_verify_pass.specs.Pass.{IsFrameAt, IsOfPass, InPass, maps_of, names_in, Tests};
 ghost use Rattle.jv_verify_pass.specs.Inside.Changes.{may_change, may_change_at};
 ghost use Rattle.jv_verify_pass.specs.Inside.Seen.{IsSeen, NotesWrites};
 ghost use Rattle.jv_verify_pass.specs.Inside.Walk.{Reaches, IsStep, when_falls, IsMerged};
@@ -29,21 +29,24 @@ use jv_verify_rules::{
 use jv_verify_types::Item;
 use std::alloc::{AllocError, Global};
 
-/// Makes what falls into an instruction, or none does, the frame before it, and says whether there is one.
+/// Makes what falls into an instruction, or none does, the frame before it, and says whether there is one. It may be known that the stack
+/// map has none there.
 fn merge(
     pass: &Pass<'_, '_, '_, '_, '_>,
     seen: &mut Seen,
     frame: &mut TypeFrame,
     falls: bool,
+    bare: bool,
     offset: u32,
 ) -> Result<bool, AllocError>
     requires seen { IsSeen pass.now seen.old offset frame.old }
+    requires bare { IsTrue bare → IsFrameAt pass.now offset None }
     ensures merged { IsMerged pass.now offset falls frame.old frame.new result }
     ensures seen { OnOk result (IsSeen pass.now seen.new offset frame.new) }
 {
     // Reads a field, so that the invariant is known.
     let _types = &pass.types;
-    let Some((place, map)) = pass.map_at(offset) else {
+    let Some((place, map)) = pass.map_unless(bare, offset) else {
         return Ok(falls);
     };
     if falls && !flows_to_map(pass, seen, frame, place, &map) {
@@ -126,7 +129,7 @@ fn note(
 }
 
 /// Goes over an instruction, and answers the first rule that is broken there, if one is. The frame is what falls into the instruction,
-/// where it falls, and then what is left.
+/// where it falls, and then what is left. It may be known that the stack map has no frame there.
 ///
 /// # Errors
 ///
@@ -137,10 +140,12 @@ pub(crate) fn step(
     seen: &mut Seen,
     frame: &mut TypeFrame,
     falls: bool,
+    bare: bool,
     offset: u32,
     insn: &Insn<&[u8]>,
 ) -> Result<Option<VerifyRule>, AllocError>
     requires seen { IsSeen pass.now seen.old offset frame.old }
+    requires bare { IsTrue bare → IsFrameAt pass.now offset None }
     requires offset { offset < 65536 }
     requires method { (env : Environment) × IsOfPass pass.now env }
     ensures step { (env : Environment) → IsOfPass pass.now env → instruction_at env offset ≡ Some (instruction_of insn.now)
@@ -155,7 +160,7 @@ pub(crate) fn step(
     keeps_local_count();
     writes_there();
     leaves_below();
-    if !merge(pass, seen, frame, falls, offset)? {
+    if !merge(pass, seen, frame, falls, bare, offset)? {
         return Ok(Some(VerifyRule::Merge));
     }
     if !is_handled(pass, seen, frame, offset, insn)? {

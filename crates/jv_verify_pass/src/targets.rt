@@ -39,6 +39,7 @@ pub(crate) fn flows_into(
 }
 
 /// Whether it flows to that at a distance from an instruction.
+#[inline(never)]
 fn distance_holds(
     pass: &Pass<'_, '_, '_, '_, '_>,
     seen: &mut Seen,
@@ -136,6 +137,7 @@ fn lookup_holds(
 }
 
 /// Whether what an instruction leaves flows to a frame of the map at each of its targets.
+#[inline(always)]
 pub(crate) fn targets_hold(
     pass: &Pass<'_, '_, '_, '_, '_>,
     seen: &mut Seen,

@@ -82,7 +82,7 @@ fn tell_from<'a, S: FrameSink<'a>>(
     'instructions: while goes_on(sink, offset, end) {
         let (insn, next) = code.insn_at(offset);
         tell(alloc, pass, frame, falls, offset, insn, sink)?;
-        if let Some(_rule) = step(alloc, pass, seen, frame, falls, offset, &insn)? {
+        if let Some(_rule) = step(alloc, pass, seen, frame, falls, false, offset, &insn)? {
             unreachable!();
         }
         falls = falls_through(&insn);

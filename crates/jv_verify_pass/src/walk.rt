@@ -48,10 +48,12 @@ fn walk(
     let code = pass.context.code();
     let size = code.size();
     let mut falls = true;
+    let mut bare_until = pass.first_map();
     let mut offset = 0;
     while offset < end {
         let (insn, next) = code.insn_at(offset);
-        if let Some(rule) = step(alloc, pass, seen, frame, falls, offset, &insn)? {
+        let bare = offset < bare_until;
+        if let Some(rule) = step(alloc, pass, seen, frame, falls, bare, offset, &insn)? {
             return Ok(Walked::Broken(CodeFault { offset, rule }));
         }
         falls = falls_through(&insn);
@@ -61,6 +63,7 @@ fn walk(
                 rule: VerifyRule::EndOfCode,
             }));
         }
+        bare_until = pass.bare_behind(offset, bare_until);
         offset = next;
     }
     Ok(Walked::Reached(falls))

@@ -16,7 +16,7 @@ use Rattle.jv_verify_types.specs.Mapped.{names_of_types, stack_flows_to, world_o
 use Rattle.jv_verify_maps.specs.Words.{MapWords, map_by_words}
 use Rattle.jv_verify_known.specs.Known.{local_at, word_at, KnownLocals}
 use Rattle.jv_verify_open.specs.Open.{end_of, holds, AllFlow, AreOpenAsBefore, AreWanting, HaveFlowed, OpenFrames, TopFlowsWhere}
-use Rattle.jv_verify_pass.specs.Pass.{Pass, HasRoom, IsFrameAt, IsOfPass, maps_of, names_in}
+use Rattle.jv_verify_pass.specs.Pass.{Pass, IsFrameAt, IsOfPass, maps_of, names_in}
 use Rattle.jv_verify_pass.specs.Inside.Settled.{IsLeft}
 
 -- handlers by where they begin to cover, how many of them have, the frames of the map at which these begin, and the greatest end: of all,

@@ -1,5 +1,5 @@
 -- How far a walk over the code has come, and what a step of it finds.
-use Rattle.std.specs.Prelude.{◌≡◌, ◌<◌, ℕ, ℤ, length, IsTrue, Bool, List, ◌∷◌, map, Option, Some, None, if◌then◌else◌, Result, IfOk}
+use Rattle.std.specs.Prelude.{◌≡◌, ◌<◌, ◌≤◌, ℕ, ℤ, length, IsTrue, Bool, List, ◌∷◌, map, Option, Some, None, if◌then◌else◌, Result, IfOk}
 use Rattle.std.specs.List.{list_all}
 use Rattle.jv_code.specs.Insns.{Instruction}
 use Rattle.jv_code.specs.Switches.{pair_distance, pairs_in}
@@ -18,13 +18,17 @@ use Rattle.jv_verify_pass.specs.declared.walk.Walked.{Walked}
 use Rattle.jv_verify_pass.specs.declared.walk.Walked.TheVariants.{Broken, Reached}
 use Rattle.jv_verify_pass.specs.Before.{Falls}
 use Rattle.jv_verify_pass.specs.Found.{IsBroken}
-use Rattle.jv_verify_pass.specs.Pass.{Pass, IsOfPass, maps_of, names_in}
+use Rattle.jv_verify_pass.specs.Pass.{Pass, IsFrameAt, IsOfPass, maps_of, names_in}
 
 -- the instructions below an offset are type safe, and this falls into it
 pub record Reaches (env : Environment) (maps : List PlacedFrame) (pc : ℕ) (falling : Option Frame) : Type 0 where
   pub frames : Assignment
   pub below : IsTypingBelow env maps pc frames
   pub falls : Falls env frames pc falling
+
+-- from an offset on, and before another, the map has no frame
+abbrev pub AreBare : Pass → ℕ → ℕ → Type 0
+AreBare pass from until = (offset : ℕ) → from ≤ offset → offset < until → IsFrameAt pass offset None
 
 -- the frame before an instruction: that of the map, to which flows what falls there, else what falls there
 abbrev pub merged : World → Option Frame → Option Frame → Option Frame

@@ -1,4 +1,4 @@
-use Rattle.std.proofs.Common.{◌≡◌, Bool, true, false, not, ◌&&◌, ◌||◌, None, sym, ap, subst, ◌∙◌}
+use Rattle.std.proofs.Common.{Bool, true, not, ◌&&◌, ◌||◌, None, sym, ap, subst, ◌∙◌}
 use Rattle.jv_verify_types.specs.Mapped.{has_uninitialized_this, locals_flow_to}
 use Rattle.jv_verify_known.specs.Known.{IsFrameAt}
 use Rattle.jv_verify_pass.specs.Pass.{Pass}

@@ -1,4 +1,4 @@
-use Rattle.std.proofs.Common.{◌≡◌, ◌≤◌, length, map, sym, ap, ◌∙◌, arith}
+use Rattle.std.proofs.Common.{◌≤◌, length, map, sym, ap, ◌∙◌, arith}
 use Rattle.jv_verify_types.specs.Typed.{typed}
 use Rattle.jv_stackmap.specs.Seen.{seen_type}
 use Rattle.jv_verify_pass.proofs.NamedTypes.{one_more, all_named}

@@ -1,8 +1,7 @@
-use Rattle.std.proofs.Common.{◌≡◌, inl, inr, ℕ, ◌+◌, Bool, false, ◌||◌, ◌==◌, List, Option, get_or, take, refl, sym, ap, subst, ◌∙◌, arith}
+use Rattle.std.proofs.Common.{inl, inr, ℕ, ◌+◌, false, ◌||◌, ◌==◌, Option, get_or, take, refl, sym, ap, ◌∙◌, arith}
 use Rattle.std.proofs.lemmas.Bool.{cases_lt}
 use Rattle.jv_code.specs.Insns.{instruction_of}
 use Rattle.jv_verify_pass.specs.Inside.Changes.{changes_by, is_written, may_change_at}
-use Rattle.jv_verify_pass.specs.Inside.Seen.{NotesWrites}
 use Rattle.jv_verify_pass.proofs.Noting.{fewer_noted, none_noted, one_noted, store_noted, written_more}
 use Rattle.jv_verify_pass.proofs.step.note_writes.Goals as goal
 

@@ -1,5 +1,4 @@
-use Rattle.std.proofs.Common.{◌≡◌, ℕ, ap, subst, sym, ◌∙◌, inr, length, arith}
-use Rattle.std.specs.Prelude.{IfOk}
+use Rattle.std.proofs.Common.{ap, subst, ◌∙◌, inr, length, arith}
 use Rattle.jv_verify_types.specs.Numbered.{frame_of}
 use Rattle.jv_verify_pass.specs.declared.walk.Walked.{Walked}
 use Rattle.jv_verify_pass.specs.Pass.{Pass, maps_of, names_in}

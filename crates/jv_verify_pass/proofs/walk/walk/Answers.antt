@@ -1,4 +1,5 @@
 use Rattle.std.proofs.Common.{◌≡◌, ℕ, ◌<◌, true, false, List, length, sym, ap, subst, ◌∙◌, arith}
+use Rattle.std.proofs.lemmas.Bool.{ltb-true}
 use Rattle.jv_code.specs.Places.{IsStartOrEnd}
 use Rattle.jv_code.specs.Insns.{instruction_of}
 use Rattle.jv_verify_types.specs.Numbered.{frame_of}
@@ -14,6 +15,10 @@ insn_at-next-requires c =
     let below : c.loop-offset.offset < c.size-size.result =
     let within = c.requires.within in let lt = c.loop-offset-test.true in let size = c.size-size.ensures.bytes in omega (arith, within, lt, size, ap length code) in
     start_here c.args.pass.now.context.code c.code-code.result.now.bytes.now c.loop-offset.offset c.size-size.result code c.size-size.ensures.bytes below c.loop-offset.invariant.1
+
+pub step-requires-clause-bare : goal.step-requires-clause-bare
+step-requires-clause-bare c = λ on.
+    c.loop-offset.invariant.4 c.loop-offset.offset (omega arith) (ltb-true c.loop-offset.offset c.loop-offset.bare_until on)
 
 pub returns-in-Some-clause-found : goal.returns-in-Some-clause-found
 returns-in-Some-clause-found c = λ env is r.
@@ -62,6 +67,7 @@ loop-offset-preserved c =
           goes_further c.stands_in_list.ensures c.starts_apart.ensures env is.is maps c.args.pass.now.context.code c.code-code.result.now.bytes.now c.size-size.result c.loop-offset.offset
           c.insn_at-next.result.1 insn left c.in_ok-rule.field-0 c.falls_through-falls.result code is.context.code c.size-size.ensures.bytes c.insn_at-next.ensures.insn c.insn_at-next.ensures.next
           c.falls_through-falls.ensures not_last c.in_default.is (c.in_ok-rule.ensures.step env is at (c.loop-offset.invariant.3 env is r).reaches),
+      λ later least less. c.bare_behind-bare_until.ensures later (let rises = c.insn_at-next.ensures.rises in omega (arith, rises, least)) less,
     )
   where
     clash : false ≡ true → ⊥

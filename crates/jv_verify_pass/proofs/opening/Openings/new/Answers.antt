@@ -1,7 +1,6 @@
-use Rattle.std.proofs.Common.{◌≡◌, ◌<◌, ℕ, List, length, sym, ap, subst, ◌∙◌, arith}
+use Rattle.std.proofs.Common.{length, sym, ap, subst, arith}
 use Rattle.std.proofs.lemmas.Bool.{eqb-true}
 use Rattle.std.proofs.lemmas.List.{length-map}
-use Rattle.jv_format.specs.declared.handlers.Handler.{Handler}
 use Rattle.jv_verify_maps.specs.Words.{frame_by_words, map_by_words}
 use Rattle.jv_verify_pass.specs.Pass.{Pass}
 use Rattle.jv_verify_pass.specs.Inside.Opening.{AreAsGood}

@@ -1,4 +1,4 @@
-use Rattle.std.proofs.Common.{◌≡◌, sym, ap, subst, ◌∙◌, arith}
+use Rattle.std.proofs.Common.{sym, ap, subst, ◌∙◌, arith}
 use Rattle.jv_verify_maps.specs.Words.{MapWords, map_by_words}
 use Rattle.jv_verify_known.specs.Known.{AreTopsFrom, IsKnown}
 use Rattle.jv_verify_pass.specs.Pass.{Pass}
