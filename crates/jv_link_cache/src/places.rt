@@ -1,6 +1,7 @@
 //! Where entries stand. Nothing that is answered rests on these numbers: an entry says what it is of.
 
 use jv_loader::{ClassTable, LoadedClass};
+use jv_pool::{Kind, Pool};
 use std::alloc::{AllocError, Global};
 
 /// How many constants have entries of their own; those of a larger guest share them.
@@ -14,15 +15,32 @@ const FEW_SELECTIONS: usize = 0x100;
 
 const FEW_METHODS: usize = 0x200;
 
-/// How many constants a class has, the one at 0 among them.
+/// Whether the constant at an index names a class or a member, and so has an entry.
+fn is_linked(pool: &Pool<'_>, index: u16) -> bool {
+    matches!(
+        pool.kind(index),
+        Some(Kind::Class | Kind::Fieldref | Kind::Methodref | Kind::InterfaceMethodref)
+    )
+}
+
+/// How many constants a pool has up to the last one with an entry, the one at 0 among them.
+fn linked_count(pool: &Pool<'_>) -> u16 {
+    let mut count = pool.count();
+    while count > 0 && !is_linked(pool, count - 1) {
+        count -= 1;
+    }
+    count
+}
+
+/// The same of a class.
 fn constant_count(class: &LoadedClass<'_>) -> usize {
     match class.file() {
-        Some(file) => usize::from(file.pool().count()),
+        Some(file) => usize::from(linked_count(file.pool())),
         None => 0,
     }
 }
 
-/// For each class the number of constants of those before it.
+/// For each class the number of such constants of those before it.
 pub(crate) fn first_constants(
     alloc: Global,
     table: &ClassTable<'_>,
