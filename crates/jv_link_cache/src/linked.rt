@@ -31,7 +31,7 @@ use crate::handlers::{Handlers, all_known, handler_in};
 use crate::method_use::MethodUse;
 use crate::methods::{MethodEntry, called_method, empty_methods, method_by};
 use crate::orders::{ClassOrder, all_orders, order_in};
-use crate::places::{all_constants, entry_place, first_constants, selection_count};
+use crate::places::{Named, entries_of, entry_place, selection_count};
 use crate::selections::{Selection, empty_selections, selection_by};
 use crate::tasks::{ClassTasks, all_tasks, initializer_at, settings_at};
 use crate::words::{ClassWords, all_words, object_words_in, word_in_all};
@@ -42,9 +42,11 @@ use std::alloc::Global;
 /// What a guest's classes link to (JVMS 5.4), with memory for what steps ask again: what a constant of a class resolves to, and
 /// which method a call runs. It is asked with the classes that [`link`] took.
 pub struct Linked<'a> {
-    firsts: Vec<usize>,
+    class_firsts: Vec<usize>,
     classes: Vec<Option<ClassEntry<'a>>>,
+    field_firsts: Vec<usize>,
     fields: Vec<FieldEntry>,
+    method_firsts: Vec<usize>,
     methods: Vec<Option<MethodEntry>>,
     virtuals: Vec<Option<Selection>>,
     interfaces: Vec<Option<Selection>>,
@@ -60,9 +62,11 @@ pub struct Linked<'a> {
 impl Drop for Linked<'_> {
     fn drop(self) {
         let Linked {
-            firsts: _,
+            class_firsts: _,
             classes: _,
+            field_firsts: _,
             fields: _,
+            method_firsts: _,
             methods: _,
             virtuals: _,
             interfaces: _,
@@ -86,12 +90,13 @@ fn link_in<'a>(
     requires { classes.now.world ≡ table.now }
     ensures { IfOk result (IsLinked table.now) }
 {
-    let firsts = first_constants(alloc, table)?;
-    let constants = all_constants(table);
+    let of_classes = entries_of(alloc, table, Named::Classes)?;
+    let of_fields = entries_of(alloc, table, Named::Fields)?;
+    let of_methods = entries_of(alloc, table, Named::Methods)?;
     let selections = selection_count(table);
-    let class_entries = empty_classes(alloc, constants)?;
-    let fields = empty_fields(alloc, constants)?;
-    let methods = empty_methods(alloc, constants)?;
+    let class_entries = empty_classes(alloc, of_classes.count)?;
+    let fields = empty_fields(alloc, of_fields.count)?;
+    let methods = empty_methods(alloc, of_methods.count)?;
     let virtuals = empty_selections(alloc, selections)?;
     let interfaces = empty_selections(alloc, selections)?;
     let specials = empty_selections(alloc, selections)?;
@@ -101,9 +106,11 @@ fn link_in<'a>(
     let tasks = all_tasks(alloc, table)?;
     let handlers = all_known(alloc, table)?;
     Ok(Linked {
-        firsts,
+        class_firsts: of_classes.firsts,
         classes: class_entries,
+        field_firsts: of_fields.firsts,
         fields,
+        method_firsts: of_methods.firsts,
         methods,
         virtuals,
         interfaces,
@@ -150,7 +157,7 @@ impl<'a> Linked<'a> {
         ensures found { IsClassUsed classes.now.world site how index result }
         ensures linked { IsLinked classes.now.world self.new }
     {
-        let at = entry_place(&self.firsts, site.class, index);
+        let at = entry_place(&self.class_firsts, site.class, index);
         let table = classes.table();
         let found = class_by(&mut self.classes, at, table, classes, site.class, index);
         used_class(table, site, how, index, found)
@@ -176,7 +183,7 @@ impl<'a> Linked<'a> {
         ensures used { IfOk result (IsClassUse classes.now.world) }
         ensures linked { IsLinked classes.now.world self.new }
     {
-        let at = entry_place(&self.firsts, site.class, index);
+        let at = entry_place(&self.class_firsts, site.class, index);
         class_by(
             &mut self.classes,
             at,
@@ -195,8 +202,8 @@ impl<'a> Linked<'a> {
             → IfSome result (λ used. IsFieldResolved world site how index (Ok used.place)) }
         ensures used { (world : World) → IsLinked world self.now → IfSome result (IsFieldUse world) }
     {
-        if site.class < self.firsts.len() {
-            let at = self.firsts[site.class].wrapping_add(usize::from(index));
+        if site.class < self.field_firsts.len() {
+            let at = self.field_firsts[site.class].wrapping_add(usize::from(index));
             usable_at_once(&self.fields, at, site.class, index, how)
         } else {
             None
@@ -220,7 +227,7 @@ impl<'a> Linked<'a> {
         ensures used { IfOk result (IsFieldUse classes.now.world) }
         ensures linked { IsLinked classes.now.world self.new }
     {
-        let at = entry_place(&self.firsts, site.class, index);
+        let at = entry_place(&self.field_firsts, site.class, index);
         let table = classes.table();
         let found = field_by(
             &mut self.fields,
@@ -329,7 +336,7 @@ impl<'a> Linked<'a> {
         ensures called { IfOk result (IsMethodUse classes.now.world) }
         ensures linked { IsLinked classes.now.world self.new }
     {
-        let at = entry_place(&self.firsts, site.class, index);
+        let at = entry_place(&self.method_firsts, site.class, index);
         let table = classes.table();
         let found = method_by(&mut self.methods, at, table, classes, site.class, index);
         called_method(table, site, how, index, found)

@@ -10,61 +10,70 @@ const MOST_CONSTANTS: usize = 0x4_0000;
 /// How many calls of a kind have entries: a power of two.
 const MOST_SELECTIONS: usize = 0x1000;
 
-/// How many have them in a guest of few methods, those of the system among them.
+/// How many have them in a guest of few methods, those of the system among them; else a power of two, half as many as methods or more.
 const FEW_SELECTIONS: usize = 0x100;
 
-const FEW_METHODS: usize = 0x200;
+/// Which constants have entries in a table.
+#[derive(Clone, Copy)]
+pub(crate) enum Named {
+    /// Those that name classes.
+    Classes,
+    /// Those that name fields.
+    Fields,
+    /// Those that name methods, of classes and of interfaces.
+    Methods,
+}
 
-/// Whether the constant at an index names a class or a member, and so has an entry.
-fn is_linked(pool: &Pool<'_>, index: u16) -> bool {
-    matches!(
-        pool.kind(index),
-        Some(Kind::Class | Kind::Fieldref | Kind::Methodref | Kind::InterfaceMethodref)
-    )
+/// For each class where its entries begin in a table, and how many there are of all.
+#[derive(Drop)]
+pub(crate) struct Entries {
+    pub(crate) firsts: Vec<usize>,
+    pub(crate) count: usize,
+}
+
+/// Whether the constant at an index has an entry.
+fn has_entry(pool: &Pool<'_>, index: u16, named: Named) -> bool {
+    match pool.kind(index) {
+        Some(Kind::Class) => matches!(named, Named::Classes),
+        Some(Kind::Fieldref) => matches!(named, Named::Fields),
+        Some(Kind::Methodref | Kind::InterfaceMethodref) => matches!(named, Named::Methods),
+        _ => false,
+    }
 }
 
 /// How many constants a pool has up to the last one with an entry, the one at 0 among them.
-fn linked_count(pool: &Pool<'_>) -> u16 {
+fn linked_count(pool: &Pool<'_>, named: Named) -> u16 {
     let mut count = pool.count();
-    while count > 0 && !is_linked(pool, count - 1) {
+    while count > 0 && !has_entry(pool, count - 1, named) {
         count -= 1;
     }
     count
 }
 
 /// The same of a class.
-fn constant_count(class: &LoadedClass<'_>) -> usize {
+fn constant_count(class: &LoadedClass<'_>, named: Named) -> usize {
     match class.file() {
-        Some(file) => usize::from(linked_count(file.pool())),
+        Some(file) => usize::from(linked_count(file.pool(), named)),
         None => 0,
     }
 }
 
-/// For each class the number of such constants of those before it.
-pub(crate) fn first_constants(
+/// Where the entries of each class begin, one for each such constant of those before it.
+pub(crate) fn entries_of(
     alloc: Global,
     table: &ClassTable<'_>,
-) -> Result<Vec<usize>, AllocError> {
-    let mut firsts = Vec::new(alloc);
+    named: Named,
+) -> Result<Entries, AllocError> {
+    let mut firsts = Vec::with_capacity(alloc, table.count())?;
     let mut next = 0usize;
     for class in table.classes() {
         firsts.push(next)?;
-        next = next.wrapping_add(constant_count(class));
+        next = next.wrapping_add(constant_count(class, named));
     }
-    Ok(firsts)
-}
-
-/// How many entries constants have.
-pub(crate) fn all_constants(table: &ClassTable<'_>) -> usize {
-    let mut all = 0usize;
-    for class in table.classes() {
-        all = all.wrapping_add(constant_count(class));
-    }
-    if all < MOST_CONSTANTS {
-        all
-    } else {
-        MOST_CONSTANTS
-    }
+    Ok(Entries {
+        firsts,
+        count: next.min(MOST_CONSTANTS),
+    })
 }
 
 /// How many entries calls of a kind have.
@@ -73,11 +82,9 @@ pub(crate) fn selection_count(table: &ClassTable<'_>) -> usize {
     for class in table.classes() {
         methods = methods.wrapping_add(class.method_count());
     }
-    if methods < FEW_METHODS {
-        FEW_SELECTIONS
-    } else {
-        MOST_SELECTIONS
-    }
+    (methods / 2)
+        .clamp(FEW_SELECTIONS, MOST_SELECTIONS)
+        .next_power_of_two()
 }
 
 /// Where the entry of a constant stands, by the first of its class.
