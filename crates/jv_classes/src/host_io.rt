@@ -31,7 +31,7 @@ fn add_method<'a>(
 fn io_methods<'a>(alloc: Global, state: RandomState) -> Result<Members<'a>, AllocError>
     ensures { IfOk result (λ methods. methods ≡ map method_seen io.methods) }
 {
-    let mut gathered = Gathered::with_capacity(alloc, state, 2)?;
+    let mut gathered = Gathered::with_capacity(alloc, state, 4)?;
     add_method(
         &mut gathered,
         PUBLIC_STATIC,
@@ -43,6 +43,18 @@ fn io_methods<'a>(alloc: Global, state: RandomState) -> Result<Members<'a>, Allo
         PUBLIC_STATIC,
         b"write".as_slice(),
         b"(I)V".as_slice(),
+    )?;
+    add_method(
+        &mut gathered,
+        PUBLIC_STATIC,
+        b"className".as_slice(),
+        b"(Ljava/lang/Object;I)I".as_slice(),
+    )?;
+    add_method(
+        &mut gathered,
+        PUBLIC_STATIC,
+        b"arrayLike".as_slice(),
+        b"([Ljava/lang/Object;I)[Ljava/lang/Object;".as_slice(),
     )?;
     Ok(gathered.members())
 }

@@ -1,12 +1,13 @@
--- What host/Io's methods do in words (own), once they are called: `write(int)` with its argument on top, `read()` with none.
+-- What host/Io's methods do in words (own), once they are called, each with its arguments on top.
 use Rattle.std.specs.Prelude.{◌≡◌, ℕ, ℤ, List, ◌∷◌, length}
 use Rattle.jv_meaning_machine.specs.Values.{Value}
 use Rattle.jv_meaning_machine.specs.Values.Value.{Int}
 use Rattle.jv_meaning_machine.specs.State.{Memory}
-use Rattle.jv_meaning_machine.specs.Effects.{Effect as EffectOfNames, Context}
+use Rattle.jv_meaning_machine.specs.Effects.{Effect as EffectOfNames, Context, Outcome}
 use Rattle.jv_meaning_machine.specs.Calls.{write, read}
 use Rattle.jv_interp_words.specs.declared.registers.Registers.{Registers}
 use Rattle.jv_interp_heap.specs.ObjectsInBlocks.{Blocks}
+use Rattle.jv_interp_heap.specs.SystemNumbers.{IsGuestsWorld}
 use Rattle.jv_interp_held.specs.declared.held.Held.{Held}
 use Rattle.jv_interp_held.specs.declared.effect.Effect.{Effect}
 use Rattle.jv_interp_held.specs.Executing.{Place, place, Executes, HasRoom, Did}
@@ -54,3 +55,11 @@ Reads next at words held at_after words_after held_after effect =
     (blocks : Blocks) (texts : List (List ℕ)) (c : Context) (addresses : List ℕ) (done : Memory × EffectOfNames) (below : List ℕ)
     → Reading next (place at words held blocks) texts c addresses done below
     → Did texts (place at_after words_after held_after blocks) effect c addresses done below
+
+-- The machine runs a method with two arguments, a reference and an int above it: `className` or `arrayLike`.
+pub record RunningOnTwo (part : Context → ℤ → List Value → Value → Outcome) (next : ℕ) (here : Place) (texts : List (List ℕ))
+    (c : Context) (number : ℤ) (value : Value) (rest : List Value) (addresses : List ℕ) (done : Memory × EffectOfNames)
+    (below : List ℕ) : Type 0 where
+  pub executes : Executes (λ c. part c number rest value) texts next here c addresses done below
+  pub stack : c.frame.stack ≡ Int number ∷ value ∷ rest
+  pub guests : IsGuestsWorld c.program.world

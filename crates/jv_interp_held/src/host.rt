@@ -1,5 +1,5 @@
 //! host/Io, whose methods are built in (own): `write(int)` appends the low eight bits to what was written, and `read()` gives the next
-//! byte that came in and was not read, or -1.
+//! byte that came in and was not read, or -1. The two others ask for objects, and are run where these are made.
 
 ghost use Rattle.std.specs.Prelude.{◌≡◌};
 ghost use Rattle.jv_interp_words.specs.Going.{StaysIn};
@@ -16,6 +16,12 @@ pub const HOST_IO: usize = 32;
 
 /// The place of `write` among its methods.
 pub const WRITE: usize = 1;
+
+/// The place of `className`.
+pub const CLASS_NAME: usize = 2;
+
+/// The place of `arrayLike`.
+pub const ARRAY_LIKE: usize = 3;
 
 /// The low eight bits of the int on top are written; where no byte of output is left, the OutOfMemoryError of the start is thrown.
 #[inline(always)]

@@ -14,5 +14,5 @@ pub use class_state::{ClassState, mark_begun};
 pub use counting::steps_behind;
 pub use effect::Effect;
 pub use held::{Held, keep_literal};
-pub use host::{HOST_IO, WRITE, read, write};
+pub use host::{ARRAY_LIKE, CLASS_NAME, HOST_IO, WRITE, read, write};
 pub use paying::pay_if_made;

@@ -1,12 +1,13 @@
 -- Calls, as instructions.
-use Rattle.std.proofs.Common.{◌≡◌, ℕ, List, refl, sym, ◌∙◌}
+use Rattle.std.proofs.Common.{◌≡◌, ℕ, ℤ, List, refl, sym, ap, ◌∙◌}
 use Rattle.jv_code.specs.Insns.{Instruction}
 use Rattle.jv_code.specs.declared.insn.Insn.TheVariants as insns
 use Rattle.jv_code.specs.declared.kinds.Invocation.TheVariants as invocations
 use Rattle.jv_link.specs.declared.site.Use.{Use}
 use Rattle.jv_link.specs.declared.site.Use.TheVariants as uses
 use Rattle.jv_link.specs.Seen.{seen_use}
-use Rattle.jv_meaning_machine.specs.Calls.{call}
+use Rattle.jv_meaning_machine.specs.Values.{Value}
+use Rattle.jv_meaning_machine.specs.Calls.{array_like, call, class_name}
 use Rattle.jv_meaning_machine.specs.Laws.Steps.{ExecutionKeeps}
 use Rattle.jv_meaning_machine.specs.State.{Memory}
 use Rattle.jv_meaning_machine.specs.Effects.{Effect as EffectOfNames, Context, Outcome}
@@ -19,8 +20,10 @@ use Rattle.jv_interp_held.specs.declared.held.Held.{Held}
 use Rattle.jv_interp_held.specs.declared.effect.Effect.{Effect}
 use Rattle.jv_interp_held.specs.Growing.{DidIn}
 use Rattle.jv_interp_members.specs.Known.{Known}
-use Rattle.jv_interp_members.specs.Calling.{Calling, CanCall, Calls, CanCallStatic, CallsStatic}
-use Rattle.jv_interp_held.specs.Executing.{place}
+use Rattle.jv_interp_members.specs.declared.calls.StaticCall.TheVariants as calls
+use Rattle.jv_interp_members.specs.Calling.{Calling, CanCall, Calls, CallingStatic, CanCallStatic, CallsStatic, RunsOnTwo}
+use Rattle.jv_interp_objects.specs.HostObjects.{CanRunOnTwo, MakesLike, NamesClass}
+use Rattle.jv_interp_held.specs.Executing.{Place, place}
 use Rattle.jv_interp_instructions.specs.InGuest.{ExecutesIn, CanExecute, Executed, CanExecuteAt, ExecutedAt}
 use Rattle.jv_interp_instructions.proofs.Grown.{did_same}
 
@@ -85,14 +88,78 @@ module _ (kept : ExecutionKeeps) (states : List ClassState) (index next : ℕ) (
     room = h.can.room;
   }
 
+  static_here :
+      (c : Context) (addresses : List ℕ) (done : Memory × EffectOfNames) (below : List ℕ)
+      → ExecutesIn static_call next k texts (place at words held blocks) c addresses done below → AreClassStates k.world c.states states
+      → CallingStatic index next k states (place at words held blocks) texts c addresses done below
+  static_here c addresses done below h states_are = record {
+    calls = calls_here kept static_call uses.Invokestatic index (λ c. refl) next k texts at words held blocks c addresses done below h;
+    states_are = states_are;
+  }
+
   pub called_static :
       (after : Registers) (words_after : List ℕ) (held_after : Held) (effect : Effect) → held_after.cells ≡ held.cells
-      → CallsStatic index next k states at words held after words_after held_after effect
+      → CallsStatic index next k states at words held after words_after held_after (calls.Has effect)
       → ExecutedAt states static_call next k texts (place at words held blocks) (place after words_after held_after blocks) effect
   called_static after words_after held_after effect same m c addresses done below h states_are =
       did_same kept static_call next k texts (place at words held blocks) c addresses done below h after words_after held_after effect same
-      (m blocks texts c addresses done below
-      (record {
-        calls = calls_here kept static_call uses.Invokestatic index (λ c. refl) next k texts at words held blocks c addresses done below h;
-        states_are = states_are;
-      }))
+      (m blocks texts c addresses done below (static_here c addresses done below h states_are))
+
+  -- ---- host/Io's methods that are given objects
+
+  can_run :
+      (part : Context → ℤ → List Value → Value → Outcome)
+      → ((blocks : Blocks) (texts : List (List ℕ)) (c : Context) (addresses : List ℕ) (done : Memory × EffectOfNames) (below : List ℕ)
+      → CallingStatic index next k states (place at words held blocks) texts c addresses done below
+      → RunsOnTwo part next texts (place at words held blocks) c addresses done below)
+      → CanExecuteAt states static_call next k texts at words held blocks → CanRunOnTwo part k.world next at words held blocks
+  can_run part runs h =
+      let r = runs blocks texts h.can.c h.can.addresses h.can.done h.can.below (static_here h.can.c h.can.addresses h.can.done h.can.below h.can.executes h.states_are) in
+      record {
+        texts = texts;
+        c = h.can.c;
+        number = r.number;
+        value = r.value;
+        rest = r.rest;
+        addresses = h.can.addresses;
+        done = h.can.done;
+        below = h.can.below;
+        runs = r.running;
+        world_is = h.can.executes.known.world;
+      }
+
+  pub can_name :
+      CallsStatic index next k states at words held at words held calls.ClassName → CanExecuteAt states static_call next k texts at words held blocks
+      → CanRunOnTwo class_name k.world next at words held blocks
+  can_name m h = can_run class_name m h
+
+  pub can_like :
+      CallsStatic index next k states at words held at words held calls.ArrayLike → CanExecuteAt states static_call next k texts at words held blocks
+      → CanRunOnTwo array_like k.world next at words held blocks
+  can_like m h = can_run array_like m h
+
+  pub named :
+      CallsStatic index next k states at words held at words held calls.ClassName
+      → (after : Registers) (words_after : List ℕ) (effect : Effect) → NamesClass k.world next at words held blocks after words_after effect
+      → ExecutedAt states static_call next k texts (place at words held blocks) (place after words_after held blocks) effect
+  named m after words_after effect n c addresses done below h states_are =
+      let r = m blocks texts c addresses done below (static_here c addresses done below h states_are) in
+      did_same kept static_call next k texts (place at words held blocks) c addresses done below h after words_after held effect refl
+      (n texts c r.number r.value r.rest addresses done below r.running h.known.world)
+
+  pub like :
+      CallsStatic index next k states at words held at words held calls.ArrayLike
+      → (after : Registers) (words_after : List ℕ) (held_after : Held) (blocks_after : Blocks) (effect : Effect)
+      → MakesLike next at words held blocks after words_after held_after blocks_after effect
+      → ExecutedAt states static_call next k texts (place at words held blocks) (place after words_after held_after blocks_after) effect
+  like m after words_after held_after blocks_after effect n c addresses done below h states_are =
+      let r = m blocks texts c addresses done below (static_here c addresses done below h states_are) in
+      n texts c r.number r.value r.rest addresses done below r.running
+
+-- ---- places
+
+pub parts_same :
+    (a b : Registers) (words words_after : List ℕ) (held held_after : Held) (blocks : Blocks)
+    → place a words held blocks ≡ place b words_after held_after blocks → (a ≡ b) × (words ≡ words_after) × (held ≡ held_after)
+parts_same a b words words_after held held_after blocks e =
+    (ap (λ (p : Place). p.at) e, ap (λ (p : Place). p.words) e, ap (λ (p : Place). p.held) e)

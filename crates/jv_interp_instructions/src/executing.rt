@@ -121,9 +121,9 @@ pub fn execute<'a, 'l, S: Store>(
         Insn::Field(access, index) => Ok(execute_field(
             current, linked, store, held, words, at, access, index,
         )),
-        Insn::Invoke(how, index) => Ok(execute_invocation(
+        Insn::Invoke(how, index) => execute_invocation(
             current, linked, store, held, words, at, how, index,
-        )),
+        ),
         Insn::InvokeInterface(index, _count) => Ok(execute_interface_invocation(
             current, linked, store, held, words, at, index,
         )),

@@ -375,9 +375,9 @@ impl Execution for StaticCalls {
         };
         match insn {
             Insn::Invoke(how, index) => match how {
-                Invocation::Static => Ok(execute_invokestatic(
-                    current, linked, store, held, words, at, index,
-                )),
+                Invocation::Static => {
+                    execute_invokestatic(current, linked, store, held, words, at, index)
+                }
                 _ => execute_apart(
                     classes, linked, methods, texts, site, states, store, held, words, at, next,
                     insn,

@@ -1,4 +1,4 @@
--- host/Io among the classes of a guest: it is the one with the number 32, and its methods are `read` and `write`.
+-- host/Io among the classes of a guest: it is the one with the number 32, and its methods stand in their order.
 use Rattle.std.proofs.Common.{◌≡◌, ℕ, zero, suc, ◌+◌, ◌≤◌, Bool, true, false, not, ◌&&◌, List, [], ◌∷◌, ◌++◌, length, map, Some, refl, sym, ap, subst, ◌∙◌, arith, codes, slice_get, inl, inr}
 use Rattle.std.specs.Prelude.{◌⊎◌}
 use Rattle.std.specs.List.{list_all}
@@ -7,11 +7,11 @@ use Rattle.std.proofs.lemmas.Bool.{and_parts}
 use Rattle.jv_class.specs.Class.{Class, Method}
 use Rattle.jv_meaning_world.specs.FileContent.{FileContent}
 use Rattle.jv_meaning_world.specs.System.Classes.{classes_with_files}
-use Rattle.jv_class_structure.specs.Flags.{acc_public, acc_static}
 use Rattle.jv_meaning_world.specs.System.Io.{io}
-use Rattle.jv_meaning_world.specs.System.Members.{method_without_code}
 use Rattle.jv_meaning_world.specs.Library.{borrowers, borrowers_more, lent, system_with, with_library}
 use Rattle.jv_meaning_world.specs.World.{Loaded, World, classes_in, loaded, world_of}
+use Rattle.jv_meaning_machine.specs.Calls.{HostMethod, host_method}
+use Rattle.jv_meaning_machine.specs.Calls.HostMethod.{Read, Write, ClassName, ArrayLike}
 use Rattle.jv_interp_members.proofs.Sites.{some_same}
 
 pub io_at : (library : List Class) (contents : List FileContent) → slice_get (world_of (with_library library) contents) 32 ≡ Some (loaded true io)
@@ -112,18 +112,6 @@ other_class library contents number l e other =
 
 -- ---- its methods
 
-abbrev pub is_write : Method → Bool
-is_write m = bytes_eq m.name (codes "write")
-
-abbrev reading : Method
-reading = method_without_code (acc_public + acc_static) (codes "read") (codes "()I")
-
-abbrev writing : Method
-writing = method_without_code (acc_public + acc_static) (codes "write") (codes "(I)V")
-
-pub write_at : (m : Method) → slice_get io.methods 1 ≡ Some m → is_write m ≡ true
-write_at m e = subst (λ (x : Method). is_write x ≡ true) (some_same writing m e) refl
-
 none_there : (n : ℕ) (l : List Method) (m : Method) → length l ≤ n → slice_get l n ≡ Some m → ⊥
 none_there n [] m h e = by_place n e
   where
@@ -133,7 +121,23 @@ none_there n [] m h e = by_place n e
 none_there zero (x ∷ l) m h e = absurd (omega (arith, h))
 none_there (suc n) (x ∷ l) m h e = none_there n l m (omega (arith, h)) e
 
-pub read_at : (member : ℕ) (m : Method) → slice_get io.methods member ≡ Some m → (member ≡ 1 → ⊥) → is_write m ≡ false
-read_at zero m e other = subst (λ (x : Method). is_write x ≡ false) (some_same reading m e) refl
-read_at (suc zero) m e other = absurd (other refl)
-read_at (suc (suc n)) m e other = absurd (none_there (suc (suc n)) io.methods m (omega arith) e)
+-- what stands at a place among them
+abbrev pub method_there : ℕ → HostMethod
+method_there (suc zero) = Write
+method_there (suc (suc zero)) = ClassName
+method_there (suc (suc (suc zero))) = ArrayLike
+method_there _ = Read
+
+pub there_is : (member : ℕ) (m : Method) → slice_get io.methods member ≡ Some m → host_method m.name ≡ method_there member
+there_is zero m e = subst (λ (x : Method). host_method x.name ≡ Read) (some_same _ m e) refl
+there_is (suc zero) m e = subst (λ (x : Method). host_method x.name ≡ Write) (some_same _ m e) refl
+there_is (suc (suc zero)) m e = subst (λ (x : Method). host_method x.name ≡ ClassName) (some_same _ m e) refl
+there_is (suc (suc (suc zero))) m e = subst (λ (x : Method). host_method x.name ≡ ArrayLike) (some_same _ m e) refl
+there_is (suc (suc (suc (suc n)))) m e = absurd (none_there (suc (suc (suc (suc n)))) io.methods m (omega arith) e)
+
+pub else_read : (member : ℕ) → (member ≡ 1 → ⊥) → (member ≡ 2 → ⊥) → (member ≡ 3 → ⊥) → method_there member ≡ Read
+else_read zero one two three = refl
+else_read (suc zero) one two three = absurd (one refl)
+else_read (suc (suc zero)) one two three = absurd (two refl)
+else_read (suc (suc (suc zero))) one two three = absurd (three refl)
+else_read (suc (suc (suc (suc n)))) one two three = refl

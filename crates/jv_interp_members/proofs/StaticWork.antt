@@ -23,24 +23,26 @@ use Rattle.jv_meaning_machine.specs.Values.Value.{Int}
 use Rattle.jv_meaning_machine.specs.Frames.{local_words}
 use Rattle.jv_meaning_machine.specs.State.{Memory, class_state, is_ready}
 use Rattle.jv_meaning_machine.specs.Operands.{taken}
-use Rattle.jv_meaning_machine.specs.Arithmetic.{one, none, as_int}
+use Rattle.jv_meaning_machine.specs.Arithmetic.{one, two, none, as_int}
 use Rattle.jv_meaning_machine.specs.Effects.{Effect, Context, Outcome, world_at, site_at, unless_error}
 use Rattle.jv_meaning_machine.specs.Effects.Effect.{Enters, Begins}
-use Rattle.jv_meaning_machine.specs.Calls.{call, call_static, run_static, run_built_in, is_built_in, names_write, write, read}
+use Rattle.jv_meaning_machine.specs.Calls.{HostMethod, call, call_static, run_static, run_built_in, is_built_in, write, read, class_name, array_like}
+use Rattle.jv_meaning_machine.specs.Calls.HostMethod.{Read, Write, ClassName, ArrayLike}
 use Rattle.jv_interp_words.specs.FramesInWords.{in_use, methods_of}
-use Rattle.jv_interp_words.proofs.Gave.{bound_gave, one_gave, int_gave, none_gave}
+use Rattle.jv_interp_words.proofs.Gave.{bound_gave, one_gave, two_gave, int_gave, none_gave}
 use Rattle.jv_interp_held.specs.declared.effect.Effect.TheVariants as effects
 use Rattle.jv_interp_held.specs.Executing.{Place, Executes, Did}
 use Rattle.jv_interp_members.specs.Known.{Known}
 use Rattle.jv_interp_members.specs.Resolved.{IsResolved}
-use Rattle.jv_interp_members.specs.Calling.{Calling}
+use Rattle.jv_interp_members.specs.Calling.{Calling, RunsOnTwo}
+use Rattle.jv_interp_heap.specs.SystemNumbers.{IsGuestsWorld}
 use Rattle.jv_interp_held.specs.Host.{Writing, Reading}
 use Rattle.jv_interp_members.proofs.Sites.{some_same, AtPlace, at_place}
 use Rattle.jv_interp_held.proofs.Entered.{done_same}
 use Rattle.jv_interp_members.proofs.Called.{Passed, passed}
 use Rattle.jv_interp_members.proofs.Arguments.{OnFrame, on_frame}
 use Rattle.jv_interp_held.proofs.Entered.{left_within, Enterable, entered, begun}
-use Rattle.jv_interp_members.proofs.HostMethods.{io_at, other_class, write_at, read_at}
+use Rattle.jv_interp_members.proofs.HostMethods.{io_at, other_class, method_there, there_is, else_read}
 use Rattle.jv_interp_members.proofs.AtSite.{it, Found, found, few_words}
 
 module _ (index next : ℕ) (k : Known) (here : Place) (texts : List (List ℕ)) (c : Context) (addresses : List ℕ) (done : Memory × Effect) (below : List ℕ)
@@ -142,13 +144,15 @@ module _ (index next : ℕ) (k : Known) (here : Place) (texts : List (List ℕ))
           ∙ subst (λ (w : World). slice_get w 32 ≡ Some f.target.declared.by) h.known.guests.world_is
           (subst (λ (n : ℕ). slice_get k.world n ≡ Some f.target.declared.by) class_is at.class)))
 
-      built_in : run_built_in c (names_write f.target.declared) runs.arguments runs.rest ≡ Ok done
-      built_in =
-          subst (λ (b : Bool). run_static c runs.arguments runs.rest f.target b ≡ Ok done)
-          (ap (λ (l : Loaded). l.by_system && Rattle.std.specs.Str.bytes_eq l.class.name (Rattle.std.specs.Prelude.codes "host/Io")) by_is) runs.runs
-
       member_is : slice_get io.methods using_it.target.declared.member ≡ Some f.target.declared.method
       member_is = subst (λ (l : Loaded). slice_get l.class.methods using_it.target.declared.member ≡ Some f.target.declared.method) by_is at.member
+
+      built_in : (method : HostMethod) → method_there using_it.target.declared.member ≡ method → run_built_in c method runs.arguments runs.rest ≡ Ok done
+      built_in method is =
+          subst (λ (m : HostMethod). run_built_in c m runs.arguments runs.rest ≡ Ok done)
+          (there_is using_it.target.declared.member f.target.declared.method member_is ∙ is)
+          (subst (λ (b : Bool). run_static c runs.arguments runs.rest f.target b ≡ Ok done)
+          (ap (λ (l : Loaded). l.by_system && Rattle.std.specs.Str.bytes_eq l.class.name (Rattle.std.specs.Prelude.codes "host/Io")) by_is) runs.runs)
 
       executed : (q : Context → Outcome) → q c ≡ Ok done → Executes q texts next here c addresses done below
       executed q does =
@@ -169,10 +173,7 @@ module _ (index next : ℕ) (k : Known) (here : Place) (texts : List (List ℕ))
 
       pub writes : using_it.target.declared.member ≡ 1 → Writes
       writes is =
-          let does : run_built_in c true runs.arguments runs.rest ≡ Ok done =
-          subst (λ (b : Bool). run_built_in c b runs.arguments runs.rest ≡ Ok done)
-          (write_at f.target.declared.method (subst (λ (n : ℕ). slice_get io.methods n ≡ Some f.target.declared.method) is member_is)) built_in in
-          let number = bound_gave (one runs.arguments >>= as_int) (λ (n : ℤ). write c n runs.rest) done does in
+          let number = bound_gave (one runs.arguments >>= as_int) (λ (n : ℤ). write c n runs.rest) done (built_in Write (ap method_there is)) in
           let value = bound_gave (one runs.arguments) as_int number.0 number.1 in
           record {
             number = number.0;
@@ -187,11 +188,11 @@ module _ (index next : ℕ) (k : Known) (here : Place) (texts : List (List ℕ))
                 };
           }
 
-      pub reads : (using_it.target.declared.member ≡ 1 → ⊥) → Reading next here texts c addresses done below
-      reads other =
-          let does : run_built_in c false runs.arguments runs.rest ≡ Ok done =
-          subst (λ (b : Bool). run_built_in c b runs.arguments runs.rest ≡ Ok done)
-          (read_at using_it.target.declared.member f.target.declared.method member_is other) built_in in
+      pub reads :
+          (using_it.target.declared.member ≡ 1 → ⊥) → (using_it.target.declared.member ≡ 2 → ⊥) → (using_it.target.declared.member ≡ 3 → ⊥)
+          → Reading next here texts c addresses done below
+      reads write name like =
+          let does = built_in Read (else_read using_it.target.declared.member write name like) in
           let rest = bound_gave (none runs.rest runs.arguments) (λ (b : List Value). read c b c.memory.input) done does in
           let nothing = none_gave runs.rest rest.0 runs.arguments rest.1 in
           let stack : c.frame.stack ≡ rest.0 =
@@ -201,3 +202,33 @@ module _ (index next : ℕ) (k : Known) (here : Place) (texts : List (List ℕ))
                 executed (λ c. read c c.frame.stack c.memory.input)
                 (subst (λ (l : List Value). read c l c.memory.input ≡ Ok done) (sym stack) rest.2);
           }
+
+      -- one of two arguments, by what it does with them
+      on_two :
+          (part : Context → ℤ → List Value → Value → Outcome)
+          → (two runs.arguments >>= λ both. as_int both.1 >>= λ number. part c number runs.rest both.0) ≡ Ok done
+          → RunsOnTwo part next texts here c addresses done below
+      on_two part does =
+          let both =
+          bound_gave (two runs.arguments) (λ (b : Value × Value). as_int b.1 >>= λ number. part c number runs.rest b.0) done does in
+          let number = bound_gave (as_int both.0.1) (λ (n : ℤ). part c n runs.rest both.0.0) done both.2 in
+          record {
+            number = number.0;
+            value = both.0.0;
+            rest = runs.rest;
+            running =
+                record {
+                  executes = executed (λ c. part c number.0 runs.rest both.0.0) number.2;
+                  stack =
+                      runs.passed.stood
+                      ∙ ap (λ (l : List Value). reverse l ++ runs.rest) (two_gave runs.arguments both.0 both.1)
+                      ∙ ap (λ (v : Value). v ∷ both.0.0 ∷ runs.rest) (int_gave both.0.1 number.0 number.1);
+                  guests = subst (λ (w : World). IsGuestsWorld w) (sym h.known.world) h.known.guests;
+                };
+          }
+
+      pub names : using_it.target.declared.member ≡ 2 → RunsOnTwo class_name next texts here c addresses done below
+      names is = on_two class_name (built_in ClassName (ap method_there is))
+
+      pub likes : using_it.target.declared.member ≡ 3 → RunsOnTwo array_like next texts here c addresses done below
+      likes is = on_two array_like (built_in ArrayLike (ap method_there is))

@@ -12,7 +12,7 @@ mod linking;
 mod methods;
 mod statics;
 
-pub use calls::{call_special, call_static, call_virtual};
+pub use calls::{StaticCall, call_special, call_static, call_virtual};
 pub use current::Current;
 pub use errors::number_of_error;
 pub use fields::{getfield, getstatic, putfield, putstatic};

@@ -31,6 +31,8 @@ pub mod NewClasses
 pub mod TopReference
 pub mod Asked
 pub mod Thrown
+pub mod HostObjects
+pub mod LikeMade
 pub mod TakesArray
 pub mod StoredReference
 pub mod Stays

@@ -29,7 +29,7 @@ array_width type h = by_dimensions type.dimensions type.element h
     by_dimensions zero element h = absurd (omega (arith, h))
     by_dimensions (suc n) element h = refl
 
-array_slots : (type : FieldTypeOf (List ℕ)) → 1 ≤ type.dimensions → field_slots type ≡ 1
+pub array_slots : (type : FieldTypeOf (List ℕ)) → 1 ≤ type.dimensions → field_slots type ≡ 1
 array_slots type h = grind (arith, h)
 
 inner_type : (world : World) (type : FieldTypeOf (List ℕ)) (word : ℕ) → IsArrayWord world type word → 1 ≤ type.dimensions → IsArrayWord world (component type) (word - 65536)

@@ -14,6 +14,7 @@ pub mod Types
 pub mod Named
 pub mod Asking
 pub mod Throwing
+pub mod HostObjects
 pub mod Storing
 pub mod Making
 pub mod Inside

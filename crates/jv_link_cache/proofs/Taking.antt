@@ -96,4 +96,6 @@ io_no_code l e k m at = by_place k (subst (λ (x : Loaded). slice_get x.class.me
     by_place : (k : ℕ) → slice_get io.methods k ≡ Some m → m.code ≡ None
     by_place zero h = subst (λ (x : Method). x.code ≡ None) (same_some _ m h) refl
     by_place (suc zero) h = subst (λ (x : Method). x.code ≡ None) (same_some _ m h) refl
-    by_place (suc (suc k)) h = absurd cc
+    by_place (suc (suc zero)) h = subst (λ (x : Method). x.code ≡ None) (same_some _ m h) refl
+    by_place (suc (suc (suc zero))) h = subst (λ (x : Method). x.code ≡ None) (same_some _ m h) refl
+    by_place (suc (suc (suc (suc k)))) h = absurd cc

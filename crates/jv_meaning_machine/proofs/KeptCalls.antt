@@ -10,11 +10,13 @@ use Rattle.jv_meaning_machine.specs.Values.{Value}
 use Rattle.jv_meaning_machine.specs.Values.Value.{Int, Long, Null, Reference, Half, Unset}
 use Rattle.jv_meaning_machine.specs.Objects.{Object, Instance}
 use Rattle.jv_meaning_machine.specs.Operands.{object_at}
-use Rattle.jv_meaning_machine.specs.Effects.{Context, world_at, goes_on_with, lacks_memory}
+use Rattle.jv_meaning_machine.specs.Effects.{Context, world_at, goes_on, goes_on_with, lacks_memory}
 use Rattle.jv_meaning_machine.specs.Effects.Effect.{Constructs}
 use Rattle.jv_meaning_machine.specs.Fields.{instance_in}
-use Rattle.jv_meaning_machine.specs.Calls.{with_byte_written, write, read, run_built_in, run_static, call_static, run_on, call_on, can_enter, construct, call_special, call_with, call_instance, call_target, call}
+use Rattle.jv_meaning_machine.specs.Calls.{HostMethod, with_byte_written, write, read, name_of, byte_in, class_name, array_like, run_built_in, run_static, call_static, run_on, call_on, can_enter, construct, call_special, call_with, call_instance, call_target, call}
+use Rattle.jv_meaning_machine.specs.Calls.HostMethod.{Read, Write, ClassName, ArrayLike}
 use Rattle.jv_meaning_machine.proofs.Leading.{leaf, failing, bound, bound_tested}
+use Rattle.jv_meaning_machine.proofs.KeptArrays.{make_array_kept}
 use Rattle.jv_meaning_machine.proofs.KeptMemory.{begins_same, keeps_same, keeps_written, keeps_read, with_input}
 use Rattle.jv_meaning_machine.proofs.KeptOutcomes.{IsKept, leaves_same, instance_stands, Kept, made_kept, same_kept, unless_kept, once_kept}
 
@@ -36,11 +38,31 @@ read_kept c below (byte ∷ more) e =
     made_kept c (with_input more c.memory) _ refl (keeps_read byte more c.memory e)
     (record { statics = refl; objects = begins_same c.memory.objects })
 
-run_built_in_kept : (c : Context) (writes : Bool) (arguments below : List Value) → Kept c (run_built_in c writes arguments below)
-run_built_in_kept c true arguments below = search (bound, write_kept)
-run_built_in_kept c false arguments below =
+class_name_kept : (c : Context) (place : ℤ) (below : List Value) (value : Value) → Kept c (class_name c place below value)
+class_name_kept c place below (Int number) = failing TagFault
+class_name_kept c place below (Long number) = failing TagFault
+class_name_kept c place below Null = same_kept c _ refl
+class_name_kept c place below (Reference id) =
+    let known : (object : Object) → Kept c (goes_on c (Int (byte_in (name_of object) place) ∷ below)) = λ object. same_kept c _ refl in
+    search (bound, known)
+class_name_kept c place below Half = failing TagFault
+class_name_kept c place below Unset = failing TagFault
+
+array_like_kept : (c : Context) (count : ℤ) (below : List Value) (value : Value) → Kept c (array_like c count below value)
+array_like_kept c count below (Int number) = failing TagFault
+array_like_kept c count below (Long number) = failing TagFault
+array_like_kept c count below Null = same_kept c _ refl
+array_like_kept c count below (Reference id) = search (bound, bound_tested, make_array_kept)
+array_like_kept c count below Half = failing TagFault
+array_like_kept c count below Unset = failing TagFault
+
+run_built_in_kept : (c : Context) (method : HostMethod) (arguments below : List Value) → Kept c (run_built_in c method arguments below)
+run_built_in_kept c Read arguments below =
     let h : (left : List Value) → Kept c (read c left c.memory.input) = λ left. read_kept c left c.memory.input refl in
     search (bound, h)
+run_built_in_kept c Write arguments below = search (bound, write_kept)
+run_built_in_kept c ClassName arguments below = search (bound, class_name_kept)
+run_built_in_kept c ArrayLike arguments below = search (bound, array_like_kept)
 
 -- ---- static methods
 

@@ -1,5 +1,5 @@
 -- The classes of the system and of a library have no main method, so a main method is one of the guest's own classes.
-use Rattle.std.proofs.Common.{◌≡◌, ℕ, Bool, true, false, not, cond, ◌&&◌, List, [], ◌∷◌, ◌++◌, map, Option, Some, None, refl, sym, ap, subst, ◌∙◌, true≢false, inl, inr, codes}
+use Rattle.std.proofs.Common.{◌≡◌, ℕ, Bool, true, false, not, cond, ◌&&◌, List, [], ◌∷◌, map, Option, Some, None, refl, sym, ap, subst, ◌∙◌, true≢false, inl, inr, codes}
 use Rattle.std.specs.Prelude.{◌⊎◌, is_none, is_some}
 use Rattle.std.specs.List.{Contains, find, list_all}
 use Rattle.std.specs.Option.{option_and_then, option_map}
@@ -18,7 +18,7 @@ use Rattle.jv_meaning_world.proofs.Up.{none, single, named_stands}
 use Rattle.jv_meaning_world.proofs.OrderChains.{all_at}
 use Rattle.jv_meaning_world.proofs.OrderWorlds.{in_library, in_mapped}
 use Rattle.jv_meaning_world.proofs.Libraries.{IsFree, joined_free, lender_stands, not_of_library}
-use Rattle.jv_meaning_machine.specs.Initialization.{is_main, main_in, main_method}
+use Rattle.jv_meaning_machine.specs.Initialization.{is_main, main_in}
 use Rattle.jv_meaning_machine.specs.Laws.Mains.{NoMainWithoutFiles, MainIsItsOwn}
 
 -- nothing is found where each element has nothing

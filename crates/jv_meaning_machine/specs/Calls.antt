@@ -1,6 +1,6 @@
 -- Calls of methods (JVMS 6.5: invokevirtual, invokespecial, invokestatic, invokeinterface): resolution comes first, then the
 -- initialization of a static method's class, then the operands, null among them, and then selection.
-use Rattle.std.specs.Prelude.{ℕ, ◌-◌, ◌%◌, ℤ, pos, negsuc, Bool, true, false, not, ◌&&◌, ◌||◌, ◌==◌, List, [], ◌∷◌, ◌++◌, map, Option, Some, None, Ok, Err, codes, if◌then◌else◌}
+use Rattle.std.specs.Prelude.{ℕ, ◌-◌, ◌%◌, ℤ, pos, negsuc, Bool, true, false, not, ◌&&◌, ◌||◌, ◌==◌, List, [], ◌∷◌, ◌++◌, map, Option, Some, None, Ok, Err, codes, if◌then◌else◌, slice_get}
 use Rattle.std.specs.Int.{w32, cast_unsigned}
 use Rattle.std.specs.Str.{bytes_eq}
 use Rattle.jv_text.specs.Descriptor.{MethodDescriptor}
@@ -32,15 +32,35 @@ use Rattle.jv_meaning_machine.specs.State.{Memory}
 use Rattle.jv_meaning_machine.specs.Operands.{object_at, popped_reference, taken}
 use Rattle.jv_meaning_machine.specs.Effects.{Context, Outcome, world_at, method_at, site_at, goes_on, goes_on_with, raises, unless_error, once_initialized, lacks_memory, null_pointer}
 use Rattle.jv_meaning_machine.specs.Effects.Effect.{Enters, Constructs}
-use Rattle.jv_meaning_machine.specs.Arithmetic.{one, none, as_int}
+use Rattle.jv_meaning_machine.specs.Arithmetic.{one, two, none, as_int}
+use Rattle.jv_meaning_machine.specs.Arrays.{array_in, holds_references, make_array}
 use Rattle.jv_meaning_machine.specs.Fields.{instance_in}
 
--- ---- host/Io, whose methods are built in (own): `write(int)` appends the low eight bits, `read()` gives the next byte of the
--- input that waits, or -1 where none waits
+-- ---- host/Io, whose methods are built in (own)
 
 abbrev pub is_built_in : Declared → Bool
 is_built_in d = d.by.by_system && bytes_eq d.by.class.name (codes "host/Io")
 
+pub data HostMethod : Type 0 where
+  Read : HostMethod
+  Write : HostMethod
+  ClassName : HostMethod
+  ArrayLike : HostMethod
+
+-- by the name alone: host/Io has these four, and its methods are found by name and descriptor
+abbrev pub host_method : List ℕ → HostMethod
+host_method name =
+    if bytes_eq name (codes "write") then Write
+    else if bytes_eq name (codes "className") then ClassName
+    else if bytes_eq name (codes "arrayLike") then ArrayLike
+    else Read
+
+-- `read()` gives the next byte of the input that waits, or -1 where none waits
+abbrev pub read : Context → List Value → List ℕ → Outcome
+read c below [] = goes_on c (Int (negsuc 0) ∷ below)
+read c below (byte ∷ more) = goes_on_with c (record c.memory { input = more }) (Int (pos byte) ∷ below)
+
+-- `write(int)` appends the low eight bits
 abbrev pub with_byte_written : ℤ → Memory → Memory
 with_byte_written number memory =
     record memory { output = memory.output ++ (cast_unsigned w32 number % 256) ∷ []; output_left = memory.output_left - 1 }
@@ -48,16 +68,40 @@ with_byte_written number memory =
 abbrev pub write : Context → ℤ → List Value → Outcome
 write c number below = if c.memory.output_left == 0 then lacks_memory c else goes_on_with c (with_byte_written number c.memory) below
 
-abbrev pub read : Context → List Value → List ℕ → Outcome
-read c below [] = goes_on c (Int (negsuc 0) ∷ below)
-read c below (byte ∷ more) = goes_on_with c (record c.memory { input = more }) (Int (pos byte) ∷ below)
+-- `className(Object, int)` gives the byte at a place, from 0 on, of the internal name (4.2.1) of an object's class, or -1 where there is
+-- none, and -1 for an array
+abbrev pub name_of : Object → List ℕ
+name_of (InstanceOf instance) = instance.class
+name_of (ArrayWith components values) = []
 
-abbrev pub run_built_in : Context → Bool → List Value → List Value → Outcome
-run_built_in c true arguments below = one arguments >>= as_int >>= λ number. write c number below
-run_built_in c false arguments below = none below arguments >>= λ below. read c below c.memory.input
+abbrev pub byte_or_none : Option ℕ → ℤ
+byte_or_none None = negsuc 0
+byte_or_none (Some byte) = pos byte
 
-abbrev pub names_write : Declared → Bool
-names_write d = bytes_eq d.method.name (codes "write")
+abbrev pub byte_in : List ℕ → ℤ → ℤ
+byte_in name (pos place) = byte_or_none (slice_get name place)
+byte_in name (negsuc n) = negsuc 0
+
+abbrev pub class_name : Context → ℤ → List Value → Value → Outcome
+class_name c place below Null = raises c null_pointer
+class_name c place below (Reference id) =
+    object_at c.memory.objects id >>= λ object. goes_on c (Int (byte_in (name_of object) place) ∷ below)
+class_name c place below _ = Err TagFault
+
+-- `arrayLike(Object[], int)` makes an array of so many components, all null, of the type that those of another array have, as `anewarray`
+-- does; nothing is resolved, so no access is asked
+abbrev pub array_like : Context → ℤ → List Value → Value → Outcome
+array_like c count below Null = raises c null_pointer
+array_like c count below (Reference id) =
+    object_at c.memory.objects id >>= array_in >>= λ array. tested ReferenceFault (holds_references array.0) array >>= λ array.
+    make_array c array.0 count below
+array_like c count below _ = Err TagFault
+
+abbrev pub run_built_in : Context → HostMethod → List Value → List Value → Outcome
+run_built_in c Read arguments below = none below arguments >>= λ below. read c below c.memory.input
+run_built_in c Write arguments below = one arguments >>= as_int >>= λ number. write c number below
+run_built_in c ClassName arguments below = two arguments >>= λ both. as_int both.1 >>= λ place. class_name c place below both.0
+run_built_in c ArrayLike arguments below = two arguments >>= λ both. as_int both.1 >>= λ count. array_like c count below both.0
 
 -- ---- methods that are entered
 
@@ -66,7 +110,7 @@ abbrev pub can_receive : World → Declared → Object → Bool
 can_receive world d object = is_interface d.by || is_instance_of world object (class_components d.by.class.name)
 
 abbrev pub run_static : Context → List Value → List Value → MethodTarget → Bool → Outcome
-run_static c arguments below t true = run_built_in c (names_write t.declared) arguments below
+run_static c arguments below t true = run_built_in c (host_method t.declared.method.name) arguments below
 run_static c arguments below t false = Ok (c.memory, Enters t.declared None arguments below)
 
 abbrev pub call_static : Context → MethodDescriptor → MethodTarget → Outcome

@@ -29,9 +29,9 @@ pub use new_law::{
 pub use row::{
     array_load_rows, array_rows, array_store_rows, branch_rows, call_rows, cast_rows,
     constant_rows, construction_rows, conversion_rows, fault_rows, feed_rows, field_rows,
-    form_rows, handler_rows, initialization_rows, instance_of_rows, int_rows, link_error_rows,
-    link_order_rows, local_rows, long_rows, new_array_rows, object_rows, output_rows, passed_rows,
-    place_rows, shift_rows, switch_rows,
+    form_rows, handler_rows, host_rows, initialization_rows, instance_of_rows, int_rows,
+    link_error_rows, link_order_rows, local_rows, long_rows, new_array_rows, object_rows,
+    output_rows, passed_rows, place_rows, shift_rows, switch_rows,
 };
 pub use run_law::{
     alone_goes_on, alone_steps_on, cells_are_budgeted, first_objects_cost, objects_are_never_fewer,

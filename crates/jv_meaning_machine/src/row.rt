@@ -1,6 +1,6 @@
 //! Worked rows of the machine.
 
-ghost use Rattle.jv_meaning_machine.specs.Rows.Machine.{OutputRows, ObjectRows, ArrayRows};
+ghost use Rattle.jv_meaning_machine.specs.Rows.Machine.{OutputRows, ObjectRows, ArrayRows, HostRows};
 ghost use Rattle.jv_meaning_machine.specs.Rows.Initialization.{InitializationRows};
 ghost use Rattle.jv_meaning_machine.specs.Rows.Arithmetic.{IntRows, LongRows, ShiftRows, ConversionRows};
 ghost use Rattle.jv_meaning_machine.specs.Rows.Arrays.{ArrayLoadRows, ArrayStoreRows, NewArrayRows};
@@ -25,6 +25,11 @@ pub fn object_rows()
 /// Worked rows: arrays, computed.
 pub fn array_rows()
     ensures { ArrayRows }
+{}
+
+/// Worked rows: host/Io's methods that are given objects, computed.
+pub fn host_rows()
+    ensures { HostRows }
 {}
 
 /// Worked rows: initialization and string literals, computed.

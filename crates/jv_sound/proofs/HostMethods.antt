@@ -1,5 +1,5 @@
--- host/Io's methods, which are built in (own): `write(int)` and `read()`.
-use Rattle.std.proofs.Common.{◌≡◌, inl, inr, zero, suc, true, false, List, [], ◌∷◌, ◌++◌, map, Some, refl, sym, ap, subst, ◌∙◌, arith}
+-- host/Io's methods, which are built in (own).
+use Rattle.std.proofs.Common.{◌≡◌, zero, suc, true, false, List, [], ◌∷◌, ◌++◌, map, Some, refl, sym, ap, subst, ◌∙◌, arith}
 use Rattle.std.specs.Prelude.{codes}
 use Rattle.std.specs.List.{Contains}
 use Rattle.std.specs.Str.{bytes_eq}
@@ -23,14 +23,16 @@ io_there (c ∷ more) _ = refl
 same_some : {A : Type 0} (a b : A) → Some a ≡ Some b → a ≡ b
 same_some a b e = cc
 
--- one of the two, by what it is
+-- each of them, by what it is
 abbrev IsHost : Method → Type 0
 IsHost m = IsHostMethod (record { by = loaded true io; method = m })
 
-host_method : (m : Method) → Contains io.methods m → IsHost m
-host_method m (zero, less, e) = subst IsHost e (inr (refl, refl))
-host_method m (suc zero, less, e) = subst IsHost e (inl (refl, refl))
-host_method m (suc (suc k), less, e) = absurd (omega (arith, less))
+host_method_there : (m : Method) → Contains io.methods m → IsHost m
+host_method_there m (zero, less, e) = subst IsHost e refl
+host_method_there m (suc zero, less, e) = subst IsHost e refl
+host_method_there m (suc (suc zero), less, e) = subst IsHost e refl
+host_method_there m (suc (suc (suc zero)), less, e) = subst IsHost e refl
+host_method_there m (suc (suc (suc (suc k))), less, e) = absurd (omega (arith, less))
 
 pub built_in : (program : Program) → IsSound program → (d : Declared) → class_named program.world d.by.class.name ≡ Some d.by
     → method_named d.by.class d.method.name d.method.descriptor ≡ Some d.method → is_built_in d ≡ true → IsHostMethod d
@@ -40,5 +42,5 @@ built_in program sound d here declared e =
     let is_io : loaded true io ≡ d.by =
     same_some (loaded true io) d.by (sym (io_there sound.library (map (loaded false) sound.guests)) ∙ ap (λ (w : World). class_named w (codes "host/Io"))
     (sym sound.world) ∙ ap (class_named program.world) (sym name) ∙ here) in
-    host_method d.method (subst (λ (l : Loaded). Contains l.class.methods d.method) (sym is_io)
+    host_method_there d.method (subst (λ (l : Loaded). Contains l.class.methods d.method) (sym is_io)
     (method_stands d.by.class d.method.name d.method.descriptor d.method declared))

@@ -20,7 +20,7 @@ use Rattle.jv_meaning_typing.specs.LinkErrors.{OrError, error_class}
 use Rattle.jv_meaning_typing.specs.Operands.{class_operand}
 use Rattle.jv_meaning_typing.specs.ClassResolution.{ResolvedClass, resolve_text}
 use Rattle.jv_meaning_typing.specs.ClassResolution.ResolvedClass.{ArrayOf}
-use Rattle.jv_meaning_world.specs.Laws.Order.{has_loadable_element}
+use Rattle.jv_meaning_world.specs.Laws.Order.{IsBelow, has_loadable_element}
 use Rattle.jv_meaning_typing.specs.Environment.{current_class}
 use Rattle.jv_meaning_typing.specs.FrameChanges.{with_stack, taken_as_all, exchanged}
 use Rattle.jv_meaning_typing.specs.Named.{array_with, named_type, when}
@@ -62,56 +62,64 @@ module _ (x : Setting) (h : IsSet x) where
       (made c counts)
   made_stand c counts k o e = get_after x.heap.objects (made c counts) k o e
 
+  -- as a value of its own type, or of one above it
   pushes :
-      (insn : Instruction) (c : FieldTypeOf (List ℕ)) (counts : List ℕ) (S : List FrameType) (s : List Value) (cells : ℕ)
+      (insn : Instruction) (c above : FieldTypeOf (List ℕ)) (counts : List ℕ) (S : List FrameType) (s : List Value) (cells : ℕ)
       → IsTrue (falls_through insn) → 1 ≤ length counts → length counts ≤ suc c.dimensions
-      → IsTrue (has_loadable_element (world_of x) c.element) → HasStack (here x) S s
-      → Does x insn (with_stack x.given (types.Array c ∷ S)) (push_arrays (context_of x insn) c counts s
+      → IsTrue (has_loadable_element (world_of x) c.element) → IsBelow (world_of x) (types.Array c) (types.Array above) → HasStack (here x) S s
+      → Does x insn (with_stack x.given (types.Array above ∷ S)) (push_arrays (context_of x insn) c counts s
       (Some (record (memory_of x) { cells = cells })))
-  pushes insn c counts S s cells falls some deep loadable hs =
+  pushes insn c above counts S s cells falls some deep loadable below hs =
       let first = made_first (program_of x) (x.heap.objects ++ made c counts) counts c (length x.heap.objects) some (made_stand c counts) in
-      goes_with_ok x h insn (types.Array c ∷ S) (Reference (length x.heap.objects) ∷ s) (with_made c counts)
+      goes_with_ok x h insn (types.Array above ∷ S) (Reference (length x.heap.objects) ∷ s) (with_made c counts)
       (record (memory_of x) { objects = x.heap.objects ++ made c counts; cells = cells }) falls
       (more_later (suc x.depth) x.heap (made c counts)) refl
       (more_typed (program_of x) x.heap (memory_of x) (made c counts) cells refl h.typed
       (λ k o e. made_typed (program_of x) (x.heap.objects ++ made c counts) counts c (length x.heap.objects) deep loadable
       (made_stand c counts) k o e)) (
-        sort_item (moved (here x) (with_made c counts)) (types.Array c) (Reference (length x.heap.objects)) tt
+        sort_item (moved (here x) (with_made c counts)) (types.Array above) (Reference (length x.heap.objects)) tt
             (record {
               object = ArrayWith c first.0;
               there = first.1;
               constructed = refl;
-              below = below_is_reflexive (world_of x)
-                  (types.Array c);
+              below = below;
             }),
         stack_later (here x) (with_made c counts) (more_later (suc x.depth) x.heap (made c counts)) S s hs,
       )
 
   pays :
-      (insn : Instruction) (c : FieldTypeOf (List ℕ)) (counts : List ℕ) (S : List FrameType) (s : List Value) (cells : ℕ)
+      (insn : Instruction) (c above : FieldTypeOf (List ℕ)) (counts : List ℕ) (S : List FrameType) (s : List Value) (cells : ℕ)
       → IsTrue (falls_through insn) → KeepsLocals x insn → 1 ≤ length counts → length counts ≤ suc c.dimensions
-      → IsTrue (has_loadable_element (world_of x) c.element) → HasStack (here x) S s
-      → Does x insn (with_stack x.given (types.Array c ∷ S)) (push_arrays (context_of x insn) c counts s (paid cells (memory_of x)))
-  pays insn c counts S s cells falls keeps some deep loadable hs = by_cells (paid cells (memory_of x)) refl
+      → IsTrue (has_loadable_element (world_of x) c.element) → IsBelow (world_of x) (types.Array c) (types.Array above) → HasStack (here x) S s
+      → Does x insn (with_stack x.given (types.Array above ∷ S)) (push_arrays (context_of x insn) c counts s (paid cells (memory_of x)))
+  pays insn c above counts S s cells falls keeps some deep loadable below hs = by_cells (paid cells (memory_of x)) refl
     where
       by_cells : (o : Option Memory) → paid cells (memory_of x) ≡ o
-          → Does x insn (with_stack x.given (types.Array c ∷ S)) (push_arrays (context_of x insn) c counts s o)
-      by_cells None e = lacks_ok x h insn (with_stack x.given (types.Array c ∷ S)) keeps
+          → Does x insn (with_stack x.given (types.Array above ∷ S)) (push_arrays (context_of x insn) c counts s o)
+      by_cells None e = lacks_ok x h insn (with_stack x.given (types.Array above ∷ S)) keeps
       by_cells (Some left) e =
-          subst (λ (m : Memory). Does x insn (with_stack x.given (types.Array c ∷ S)) (push_arrays (context_of x insn) c counts s (Some m)))
+          subst (λ (m : Memory). Does x insn (with_stack x.given (types.Array above ∷ S)) (push_arrays (context_of x insn) c counts s (Some m)))
           (sym (paid_is (program_of x) cells (memory_of x) left e))
-          (pushes insn c counts S s (x.rest.cells - cells) falls some deep loadable hs)
+          (pushes insn c above counts S s (x.rest.cells - cells) falls some deep loadable below hs)
 
   -- one array
-  makes : (insn : Instruction) (c : FieldTypeOf (List ℕ)) (count : ℤ) (S : List FrameType) (s : List Value) → IsTrue (falls_through insn)
-      → KeepsLocals x insn → IsTrue (has_loadable_element (world_of x) c.element) → HasStack (here x) S s
-      → Does x insn (with_stack x.given (types.Array c ∷ S)) (make_array (context_of x insn) c count s)
-  makes insn c (negsuc n) S s falls keeps loadable hs = raises_ok x h insn (with_stack x.given (types.Array c ∷ S)) negative_size refl keeps
-  makes insn c (pos count) S s falls keeps loadable hs = pays insn c (count ∷ []) S s (array_cells c count) falls keeps (omega arith)
-      (one_deep c.dimensions) loadable hs
+  pub makes_below : (insn : Instruction) (c above : FieldTypeOf (List ℕ)) (count : ℤ) (S : List FrameType) (s : List Value)
+      → IsTrue (falls_through insn) → KeepsLocals x insn → IsTrue (has_loadable_element (world_of x) c.element)
+      → IsBelow (world_of x) (types.Array c) (types.Array above) → HasStack (here x) S s
+      → Does x insn (with_stack x.given (types.Array above ∷ S)) (make_array (context_of x insn) c count s)
+  makes_below insn c above (negsuc n) S s falls keeps loadable below hs =
+      raises_ok x h insn (with_stack x.given (types.Array above ∷ S)) negative_size refl keeps
+  makes_below insn c above (pos count) S s falls keeps loadable below hs =
+      pays insn c above (count ∷ []) S s (array_cells c count) falls keeps (omega arith) (one_deep c.dimensions) loadable below hs
     where
       one_deep : (d : ℕ) → 1 ≤ suc d
       one_deep d = omega arith
+
+  makes : (insn : Instruction) (c : FieldTypeOf (List ℕ)) (count : ℤ) (S : List FrameType) (s : List Value) → IsTrue (falls_through insn)
+      → KeepsLocals x insn → IsTrue (has_loadable_element (world_of x) c.element) → HasStack (here x) S s
+      → Does x insn (with_stack x.given (types.Array c ∷ S)) (make_array (context_of x insn) c count s)
+  makes insn c count S s falls keeps loadable hs =
+      makes_below insn c c count S s falls keeps loadable (below_is_reflexive (world_of x) (types.Array c)) hs
 
   -- ---- newarray
 
@@ -221,8 +229,9 @@ module _ (x : Setting) (h : IsSet x) where
       makes_counts c S counts s many deep least loadable hs true = raises_ok x h (insns.NewMultiArray index dimensions)
           (with_stack x.given (types.Array c ∷ S)) negative_size refl refl
       makes_counts c S counts s many deep least loadable hs false =
-          pays (insns.NewMultiArray index dimensions) c (map count_of counts) S s (arrays_cells c (map count_of counts)) refl refl
-          (omega (arith, mapped counts, many, least)) (omega (arith, mapped counts, many, deep)) loadable hs
+          pays (insns.NewMultiArray index dimensions) c c (map count_of counts) S s (arrays_cells c (map count_of counts)) refl refl
+          (omega (arith, mapped counts, many, least)) (omega (arith, mapped counts, many, deep)) loadable
+          (below_is_reflexive (world_of x) (types.Array c)) hs
         where
           mapped : (vs : List Value) → length (map count_of vs) ≡ length vs
           mapped [] = refl

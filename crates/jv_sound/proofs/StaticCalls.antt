@@ -1,6 +1,6 @@
--- invokestatic (JVMS 6.5), and the two methods that are built in (own).
-use Rattle.std.proofs.Common.{◌≡◌, inl, inr, ℕ, suc, ℤ, Bool, true, false, not, ◌==◌, List, [], ◌∷◌, ◌++◌, map, Some, None, refl, sym, ap, subst, ◌∙◌}
-use Rattle.std.specs.Prelude.{IsSome, if◌then◌else◌}
+-- invokestatic (JVMS 6.5), and the methods that are built in (own).
+use Rattle.std.proofs.Common.{◌≡◌, ℕ, suc, ℤ, Bool, true, false, not, ◌==◌, List, [], ◌∷◌, ◌++◌, map, Some, None, refl, sym, ap, subst, ◌∙◌}
+use Rattle.std.specs.Prelude.{⊤, IsSome, slice_get, if◌then◌else◌}
 use Rattle.jv_format.specs.Format as rules_format
 use Rattle.jv_text.specs.Descriptor.{MethodDescriptor}
 use Rattle.jv_text.specs.Name.{is_init}
@@ -24,19 +24,29 @@ use Rattle.jv_meaning_typing.specs.Environment.{current_class}
 use Rattle.jv_meaning_typing.specs.FrameChanges.{with_stack, exchanged}
 use Rattle.jv_meaning_typing.specs.MemberRules.{has_plain_name, invoke_static, goes_with_version}
 use Rattle.jv_meaning_typing.specs.Named.{MethodUse, method_use, result_types, when}
+use Rattle.jv_meaning_machine.specs.Faults.{◌>>=◌}
+use Rattle.jv_meaning_machine.specs.Faults.Fault.{ReferenceFault}
 use Rattle.jv_meaning_machine.specs.Values.{Value}
+use Rattle.jv_meaning_machine.specs.Values.Value.{Null, Reference}
+use Rattle.jv_meaning_machine.specs.Objects.Object.{ArrayWith}
+use Rattle.jv_meaning_machine.specs.Arrays.{Components, holds_references, make_array}
+use Rattle.jv_meaning_machine.specs.Effects.{null_pointer}
 use Rattle.jv_meaning_machine.specs.State.{Memory, class_state, is_ready}
-use Rattle.jv_meaning_machine.specs.Calls.{is_built_in, names_write, run_built_in, run_static, call_static, write, read, with_byte_written}
+use Rattle.jv_meaning_machine.specs.Calls.{HostMethod, is_built_in, host_method, run_built_in, run_static, call_static, write, read, with_byte_written, class_name, array_like}
+use Rattle.jv_meaning_machine.specs.Calls.HostMethod.{Read, Write, ClassName, ArrayLike}
 use Rattle.jv_sound.specs.Values.{Zip, Fits, HasStack}
 use Rattle.jv_sound.specs.Memory.{IsTypedMemory}
 use Rattle.jv_sound.specs.Sound.{AreSorts, IsResultSort}
-use Rattle.jv_sound.specs.Calls.{write_type, read_type, IsHostMethod}
-use Rattle.jv_sound.proofs.Logic.{clash, then2, then_holds}
+use Rattle.jv_sound.specs.Calls.{of_object, of_objects, host_type, IsHostMethod}
+use Rattle.jv_sound.proofs.Logic.{clash, then2, then_holds, found_holds, tested_holds}
 use Rattle.jv_sound.proofs.Heaps.{same}
 use Rattle.jv_sound.proofs.Taking.{and_parts, taken_all}
-use Rattle.jv_sound.proofs.Pure.{agrees_from, one_ok, none_ok, int_ok}
+use Rattle.jv_sound.proofs.ArrayLoads.{array_at}
+use Rattle.jv_sound.proofs.ArrayTypes.{array_value, reference_components}
+use Rattle.jv_sound.proofs.NewArrays.{makes_below}
+use Rattle.jv_sound.proofs.Pure.{agrees_from, one_ok, two_ok, none_ok, int_ok}
 use Rattle.jv_sound.proofs.ResolvedTypes.{same_option}
-use Rattle.jv_sound.proofs.Handlers.{once_any, lacks_any, enters_ok, sorts_mapped}
+use Rattle.jv_sound.proofs.Handlers.{once_any, raises_any, lacks_any, enters_ok, sorts_mapped}
 use Rattle.jv_sound.proofs.MethodUses.{called_there, called_declared, calling, target_ok, method_ok, asked}
 use Rattle.jv_sound.proofs.Ways.{Setting, IsSet, world_of, program_of, memory_of, context_of, here, Does, By, Sound, goes_ok, goes_with_ok}
 
@@ -91,25 +101,56 @@ module _ (x : Setting) (h : IsSet x) (index : ℕ)
       goes_with_ok x h insn (types.Int ∷ S) _ x.heap (record (memory_of x) { input = more }) refl (same (suc x.depth) x.heap) refl
       (typed_again (memory_of x) h.typed _ more _) (record { fits = tt; width = refl }, hs)
 
+  names : (S : List FrameType) (s : List Value) (place : ℤ) (v : Value) → Fits (world_of x) x.heap.objects (value_type of_object) v
+      → HasStack (here x) S s → Does x insn (with_stack x.given (types.Int ∷ S)) (class_name (context_of x insn) place s v)
+  names S s place Null f hs = raises_any x h insn (with_stack x.given (types.Int ∷ S)) null_pointer refl
+  names S s place (Reference id) f hs =
+      then_holds (found_holds {P = λ o. ⊤} ReferenceFault (slice_get x.heap.objects id) f.object f.there tt) (λ object _.
+      goes_ok x h insn (types.Int ∷ S) _ refl (record { fits = tt; width = refl }, hs))
+  names S s place _ f hs = absurd f
+
+  likes : (S : List FrameType) (s : List Value) (count : ℤ) (v : Value) → Fits (world_of x) x.heap.objects (value_type of_objects) v
+      → HasStack (here x) S s → Does x insn (with_stack x.given (value_type of_objects ∷ S)) (array_like (context_of x insn) count s v)
+  likes S s count Null f hs = raises_any x h insn (with_stack x.given (value_type of_objects ∷ S)) null_pointer refl
+  likes S s count (Reference id) f hs =
+      let a = array_value (world_of x) x.heap.objects of_object (Reference id) f in
+      then_holds (array_at x.heap.objects id a.0 a.1 a.2) (λ array same_array.
+      then_holds (tested_holds {P = λ (b : Components). b ≡ (a.0, a.1)} ReferenceFault (holds_references array.0) array
+      (ap (λ (b : Components). holds_references b.0) same_array ∙ (reference_components (world_of x) of_object a.0 refl a.3).0) same_array)
+      (λ array same_again.
+      subst (λ (b : Components). Does x insn (with_stack x.given (value_type of_objects ∷ S)) (make_array (context_of x insn) b.0 count s))
+      (sym same_again)
+      (makes_below x h insn a.0 of_object count S s refl refl (h.typed.objects.each id (ArrayWith a.0 a.1) a.2).loadable a.3 hs)))
+  likes S s count _ f hs = absurd f
+
+  runs_method : (method : HostMethod) (S : List FrameType) (arguments s : List Value)
+      → Zip (Fits (world_of x) x.heap.objects) (map value_type (host_type method).parameters) arguments → HasStack (here x) S s
+      → Does x insn (with_stack x.given (result_types (host_type method).result ++ S)) (run_built_in (context_of x insn) method arguments s)
+  runs_method Read S arguments s f hs =
+      then_holds (none_ok {P = λ b. HasStack (here x) S b} (Fits (world_of x) x.heap.objects) s arguments f hs)
+      (λ b hb. reads S b hb x.rest.input)
+  runs_method Write S arguments s f hs =
+      then_holds (then_holds (one_ok (Fits (world_of x) x.heap.objects) types.Int arguments f) (λ v g. int_ok v g))
+      (λ number _. writes S s number hs)
+  runs_method ClassName S arguments s f hs =
+      then_holds (two_ok (Fits (world_of x) x.heap.objects) (value_type of_object) types.Int arguments f) (λ both g.
+      then_holds (int_ok both.1 g.1) (λ place _. names S s place both.0 g.0 hs))
+  runs_method ArrayLike S arguments s f hs =
+      then_holds (two_ok (Fits (world_of x) x.heap.objects) (value_type of_objects) types.Int arguments f) (λ both g.
+      then_holds (int_ok both.1 g.1) (λ count _. likes S s count both.0 g.0 hs))
+
   runs_built_in : (d : Declared) (descriptor : MethodDescriptor) (S : List FrameType) (arguments s : List Value) → IsHostMethod d
       → method_type_of d.method.descriptor ≡ Some descriptor
       → Zip (Fits (world_of x) x.heap.objects) (map value_type descriptor.parameters) arguments → HasStack (here x) S s
       → Does x insn (with_stack x.given (result_types descriptor.result ++ S))
-      (run_built_in (context_of x insn) (names_write d) arguments s)
-  runs_built_in d descriptor S arguments s (inl w) e f hs =
-      let is : write_type ≡ descriptor = same_option write_type descriptor (sym w.1 ∙ e) in
-      rw w.0 (subst (λ (c : MethodDescriptor). Does x insn (with_stack x.given (result_types c.result ++ S))
-      (run_built_in (context_of x insn) true arguments s)) is
-      (then_holds (then_holds (one_ok (Fits (world_of x) x.heap.objects) types.Int arguments
-      (subst (λ (c : MethodDescriptor). Zip (Fits (world_of x) x.heap.objects) (map value_type c.parameters) arguments) (sym is) f))
-      (λ v g. int_ok v g)) (λ number _. writes S s number hs)))
-  runs_built_in d descriptor S arguments s (inr r) e f hs =
-      let is : read_type ≡ descriptor = same_option read_type descriptor (sym r.1 ∙ e) in
-      rw r.0 (subst (λ (c : MethodDescriptor). Does x insn (with_stack x.given (result_types c.result ++ S))
-      (run_built_in (context_of x insn) false arguments s)) is
-      (then_holds (none_ok {P = λ b. HasStack (here x) S b} (Fits (world_of x) x.heap.objects) s arguments
+      (run_built_in (context_of x insn) (host_method d.method.name) arguments s)
+  runs_built_in d descriptor S arguments s w e f hs =
+      let method = host_method d.method.name in
+      let is : host_type method ≡ descriptor = same_option (host_type method) descriptor (sym w ∙ e) in
+      subst (λ (c : MethodDescriptor). Does x insn (with_stack x.given (result_types c.result ++ S))
+      (run_built_in (context_of x insn) method arguments s)) is
+      (runs_method method S arguments s
       (subst (λ (c : MethodDescriptor). Zip (Fits (world_of x) x.heap.objects) (map value_type c.parameters) arguments) (sym is) f) hs)
-      (λ b hb. reads S b hb x.rest.input)))
 
   -- ---- the instruction
 

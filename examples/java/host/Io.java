@@ -13,4 +13,14 @@ public final class Io {
     /** Appends the low eight bits to the output. */
     public static void write(int value) {
     }
+
+    /** The byte at a place of the name of an object's class, in internal form, or -1 where there is none, and -1 for an array. */
+    public static int className(Object object, int place) {
+        return -1;
+    }
+
+    /** A new array of so many components, all null, of the type that those of another array have. */
+    public static Object[] arrayLike(Object[] array, int count) {
+        return null;
+    }
 }

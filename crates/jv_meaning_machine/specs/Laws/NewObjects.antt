@@ -1,5 +1,6 @@
--- Laws of new objects (JVMS 6.5: new, newarray, anewarray, multianewarray, ldc): those that an instruction makes stand behind all
--- that there were, and the first of them, to which a reference is pushed, has their count as its number.
+-- Laws of new objects (JVMS 6.5: new, newarray, anewarray, multianewarray, ldc): those that such an instruction makes stand behind all
+-- that there were, and the first of them, to which a reference is pushed, has their count as its number. What `arrayLike` of host/Io makes
+-- stands behind them too, as what any instruction makes.
 use Rattle.std.specs.Prelude.{◌≡◌, ℕ, pos, negsuc, ◌+◌, ◌-◌, ◌≤◌, ◌<◌, ◌⊎◌, true, false, List, [], ◌∷◌, ◌++◌, length, map, replicate, Option, Some, None, Ok, Err}
 use Rattle.std.specs.List.{list_any}
 use Rattle.jv_text.specs.declared.descriptor.FieldTypeOf.{FieldTypeOf}

@@ -45,7 +45,7 @@ ObjectsStay =
     → slice_get before.memory.objects number ≡ Some object
     → (same : Object) × (slice_get later.memory.objects number ≡ Some same) × (shape_of same ≡ shape_of object)
 
--- Objects are never fewer. (Which number a new one gets is said in NewLaws, and that none is given twice in StepLaws.)
+-- Objects are never fewer. (Which number a new one gets is said in NewObjects, and that none is given twice in Steps.)
 abbrev pub ObjectsAreNeverFewer : Type 0
 ObjectsAreNeverFewer =
     (program : Program) (n : ℕ) (before later : State) → after_steps program n before ≡ Ok later

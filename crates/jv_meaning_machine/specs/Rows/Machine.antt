@@ -1,5 +1,5 @@
 -- Worked rows (JVMS 2, 6.5): what small classes do, computed.
-use Rattle.std.specs.Prelude.{◌≡◌, ℕ, List, [], ◌∷◌, Some, None, codes}
+use Rattle.std.specs.Prelude.{◌≡◌, ℕ, List, [], ◌∷◌, ◌++◌, Some, None, codes}
 use Rattle.jv_code.specs.declared.insn.Insn.TheVariants as insns
 use Rattle.jv_code.specs.declared.kinds.LocalForm.TheVariants as local
 use Rattle.jv_code.specs.declared.kinds.WordKind.TheVariants as word_kinds
@@ -136,3 +136,54 @@ pub record ArrayRows : Type 0 where
   pub negative : run 2 (make_arrays (iconst 0) iconst_m1) 4 ≡ threw 4 (codes "NegativeArraySizeException")
   -- an object of a class that does not implement the interface
   pub store : run 4 store_object 9 ≡ threw 9 (codes "ArrayStoreException")
+
+-- ---- host/Io's methods that are given objects
+
+abbrev pub object_made : List Instruction
+object_made = new 12 ∷ dup ∷ invokespecial 16 ∷ []
+
+abbrev pub objects_made : List Instruction
+objects_made = iconst 1 ∷ insns.NewReferenceArray 12 ∷ []
+
+-- the byte at a place of the name of an object's class is written
+abbrev pub writes_name : List Instruction → Instruction → List Instruction
+writes_name object place = object ++ place ∷ invokestatic 83 ∷ invokestatic 6 ∷ return ∷ []
+
+-- or the high byte of the int that is given, 255 of -1
+abbrev pub writes_high : List Instruction → Instruction → List Instruction
+writes_high object place = object ++ place ∷ invokestatic 83 ∷ bipush 24 ∷ iushr ∷ invokestatic 6 ∷ return ∷ []
+
+-- the length of an array like one of Objects is written
+abbrev pub writes_length : Instruction → List Instruction
+writes_length count = objects_made ++ count ∷ invokestatic 87 ∷ insns.ArrayLength ∷ invokestatic 6 ∷ return ∷ []
+
+-- an Object can't stand in an array like one of Strings
+abbrev pub stores_like : List Instruction
+stores_like =
+    iconst 1 ∷ insns.NewReferenceArray 26 ∷ iconst 1 ∷ invokestatic 87 ∷ iconst 0 ∷ new 12 ∷ dup ∷ invokespecial 16
+    ∷ insns.ReferenceArrayStore ∷ return ∷ []
+
+-- an array like one of arrays of ints has components that are null
+abbrev pub loads_like : List Instruction
+loads_like =
+    iconst 1 ∷ iconst 1 ∷ insns.NewMultiArray 18 2 ∷ iconst 1 ∷ invokestatic 87 ∷ iconst 0 ∷ insns.ReferenceArrayLoad
+    ∷ insns.ArrayLength ∷ pop ∷ return ∷ []
+
+pub record HostRows : Type 0 where
+  pub first_letter : run 2 (writes_name object_made (iconst 0)) 9 ≡ returned 9 (codes "j")
+  pub last_letter : run 2 (writes_name object_made (bipush 15)) 9 ≡ returned 9 (codes "t")
+  pub of_string : run 2 (writes_name (ldc 22 ∷ []) (bipush 10)) 6 ≡ returned 6 (codes "S")
+  -- -1 behind the name, before it, and of an array
+  pub behind : run 2 (writes_high object_made (bipush 16)) 11 ≡ returned 11 (255 ∷ [])
+  pub before : run 2 (writes_high object_made iconst_m1) 11 ≡ returned 11 (255 ∷ [])
+  pub of_array : run 2 (writes_high objects_made (iconst 0)) 9 ≡ returned 9 (255 ∷ [])
+  pub of_null : run 2 (insns.NullConstant ∷ iconst 0 ∷ invokestatic 83 ∷ pop ∷ return ∷ []) 4 ≡ threw 4 (codes "NullPointerException")
+  pub like : run 2 (writes_length (iconst 2)) 8 ≡ returned 8 (2 ∷ [])
+  -- 3 cells are the first array's, and 57 are left for one of 55 components
+  pub last_cell : run 2 (writes_length (bipush 55)) 8 ≡ returned 8 (55 ∷ [])
+  pub no_cell : run 2 (writes_length (bipush 56)) 5 ≡ threw 5 (codes "OutOfMemoryError")
+  pub negative : run 2 (writes_length iconst_m1) 5 ≡ threw 5 (codes "NegativeArraySizeException")
+  pub like_strings : run 4 stores_like 11 ≡ threw 11 (codes "ArrayStoreException")
+  pub like_arrays : run 2 loads_like 9 ≡ threw 9 (codes "NullPointerException")
+  -- null comes before a negative count
+  pub like_null : run 2 (insns.NullConstant ∷ iconst_m1 ∷ invokestatic 87 ∷ pop ∷ return ∷ []) 4 ≡ threw 4 (codes "NullPointerException")

@@ -162,8 +162,18 @@ fifth_constants =
     constants.Fieldref 54 49 ∷ constants.Utf8 (codes "J") ∷ constants.NameAndType 43 76 ∷ constants.Fieldref 37 77
     ∷ constants.Methodref 37 15 ∷ []
 
+-- 83 className, 87 arrayLike
+abbrev pub sixth_constants : List Entry
+sixth_constants =
+    constants.Utf8 (codes "className") ∷ constants.Utf8 (codes "(Ljava/lang/Object;I)I") ∷ constants.NameAndType 80 81
+    ∷ constants.Methodref 2 82 ∷ constants.Utf8 (codes "arrayLike")
+    ∷ constants.Utf8 (codes "([Ljava/lang/Object;I)[Ljava/lang/Object;") ∷ constants.NameAndType 84 85 ∷ constants.Methodref 2 86
+    ∷ []
+
 abbrev pub all_constants : List ℕ → List Entry
-all_constants text = first_constants text ++ (second_constants ++ (third_constants ++ (fourth_constants ++ fifth_constants)))
+all_constants text =
+    first_constants text
+    ++ (second_constants ++ (third_constants ++ (fourth_constants ++ (fifth_constants ++ sixth_constants))))
 
 -- ---- classes and members
 

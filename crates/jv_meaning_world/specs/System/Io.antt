@@ -1,4 +1,4 @@
--- host/Io, which is built in without a file: `read` and `write` have no code (own).
+-- host/Io, which is built in without a file: its methods have no code (own).
 use Rattle.std.specs.Prelude.{◌+◌, [], ◌∷◌, Some, codes}
 use Rattle.jv_class_structure.specs.Flags.{acc_public, acc_static, acc_final, acc_super}
 use Rattle.jv_class.specs.Class.{Class}
@@ -15,6 +15,8 @@ io = record {
   methods =
       method_without_code (acc_public + acc_static) (codes "read") (codes "()I")
       ∷ method_without_code (acc_public + acc_static) (codes "write") (codes "(I)V")
+      ∷ method_without_code (acc_public + acc_static) (codes "className") (codes "(Ljava/lang/Object;I)I")
+      ∷ method_without_code (acc_public + acc_static) (codes "arrayLike") (codes "([Ljava/lang/Object;I)[Ljava/lang/Object;")
       ∷ [];
   constant_pool = [];
 }

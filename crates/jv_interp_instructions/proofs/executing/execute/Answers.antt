@@ -99,7 +99,7 @@ returns-in-Field-clause-done g c =
 
 pub returns-in-Invoke-clause-done : goal.returns-in-Invoke-clause-done
 returns-in-Invoke-clause-done g c =
-    rw c.in-Invoke.is (c.execute_invocation.ensures.done c.args.texts.now.names)
+    rw c.in-Invoke.is (IfOk-weaker c.execute_invocation.result _ _ (λ effect done. done c.args.texts.now.names) c.execute_invocation.ensures.done)
 
 pub returns-in-InvokeInterface-clause-done : goal.returns-in-InvokeInterface-clause-done
 returns-in-InvokeInterface-clause-done g c =

@@ -3,7 +3,7 @@ use Rattle.jv_link.specs.declared.site.Use.TheVariants as uses
 use Rattle.jv_interp_members.specs.Known.{known}
 use Rattle.jv_interp_held.specs.Executing.{place}
 use Rattle.jv_interp_members.proofs.AtSite.{failed}
-use Rattle.jv_interp_members.proofs.StaticWork.{f, at, few_classes, begins, few, enters, writes, reads}
+use Rattle.jv_interp_members.proofs.StaticWork.{f, at, few_classes, begins, few, enters, writes, reads, names, likes}
 use Rattle.jv_interp_members.proofs.calls.call_static.Goals as goal
 
 pub returns-in-Err-clause-calls : goal.returns-in-Err-clause-calls
@@ -45,6 +45,26 @@ returns-then-place-eq-WRITE-clause-calls c = λ blocks texts x addresses done be
     c.in-Ok.ensures.called).class) ∙ c.if-not-is_ready.false) c.if-place-eq-HOST_IO.true c.if-place-eq-WRITE.true in
     c.write.ensures.writes blocks texts x it.number it.rest addresses done below it.writing
 
+pub returns-then-place-eq-CLASS_NAME-clause-calls : goal.returns-then-place-eq-CLASS_NAME-clause-calls
+returns-then-place-eq-CLASS_NAME-clause-calls c = λ blocks texts x addresses done below h.
+    let k = known c.args.current.classes.now.world c.args.linked.now c.args.current.site in
+    let here = place c.args.at.now c.args.words.now c.args.held.now blocks in
+    names c.args.index c.args.current.next k here texts x addresses done below h.calls c.method_is_called.ensures c.in-Ok.called c.in-Ok.ensures.found c.in-Ok.ensures.called
+    (sym (c.is_ready.ensures k.world x.states (f c.args.index c.args.current.next k here texts x addresses done below h.calls c.method_is_called.ensures
+    c.in-Ok.called c.in-Ok.ensures.found c.in-Ok.ensures.called).target.declared.by h.states_are
+    (at c.args.index c.args.current.next k here texts x addresses done below h.calls c.method_is_called.ensures c.in-Ok.called c.in-Ok.ensures.found
+    c.in-Ok.ensures.called).class) ∙ c.if-not-is_ready.false) c.if-place-eq-HOST_IO.true c.if-place-eq-CLASS_NAME.true
+
+pub returns-then-place-eq-ARRAY_LIKE-clause-calls : goal.returns-then-place-eq-ARRAY_LIKE-clause-calls
+returns-then-place-eq-ARRAY_LIKE-clause-calls c = λ blocks texts x addresses done below h.
+    let k = known c.args.current.classes.now.world c.args.linked.now c.args.current.site in
+    let here = place c.args.at.now c.args.words.now c.args.held.now blocks in
+    likes c.args.index c.args.current.next k here texts x addresses done below h.calls c.method_is_called.ensures c.in-Ok.called c.in-Ok.ensures.found c.in-Ok.ensures.called
+    (sym (c.is_ready.ensures k.world x.states (f c.args.index c.args.current.next k here texts x addresses done below h.calls c.method_is_called.ensures
+    c.in-Ok.called c.in-Ok.ensures.found c.in-Ok.ensures.called).target.declared.by h.states_are
+    (at c.args.index c.args.current.next k here texts x addresses done below h.calls c.method_is_called.ensures c.in-Ok.called c.in-Ok.ensures.found
+    c.in-Ok.ensures.called).class) ∙ c.if-not-is_ready.false) c.if-place-eq-HOST_IO.true c.if-place-eq-ARRAY_LIKE.true
+
 pub read-requires : goal.read-requires
 read-requires c =
     let k = known c.args.current.classes.now.world c.args.linked.now c.args.current.site in
@@ -61,7 +81,8 @@ read-requires c =
           (sym (c.is_ready.ensures k.world w.c.states (f c.args.index c.args.current.next k here w.texts w.c w.addresses w.done w.below w.calls.calls
           c.method_is_called.ensures c.in-Ok.called c.in-Ok.ensures.found c.in-Ok.ensures.called).target.declared.by w.calls.states_are
           (at c.args.index c.args.current.next k here w.texts w.c w.addresses w.done w.below w.calls.calls c.method_is_called.ensures c.in-Ok.called
-          c.in-Ok.ensures.found c.in-Ok.ensures.called).class) ∙ c.if-not-is_ready.false) c.if-place-eq-HOST_IO.true c.if-place-eq-WRITE.false;
+          c.in-Ok.ensures.found c.in-Ok.ensures.called).class) ∙ c.if-not-is_ready.false) c.if-place-eq-HOST_IO.true
+          c.if-place-eq-WRITE.false c.if-place-eq-CLASS_NAME.false c.if-place-eq-ARRAY_LIKE.false;
       room = w.room;
     }
 
@@ -74,7 +95,7 @@ returns-then-place-eq-HOST_IO-clause-calls c = λ blocks texts x addresses done 
     (sym (c.is_ready.ensures k.world x.states (f c.args.index c.args.current.next k here texts x addresses done below h.calls c.method_is_called.ensures
     c.in-Ok.called c.in-Ok.ensures.found c.in-Ok.ensures.called).target.declared.by h.states_are
     (at c.args.index c.args.current.next k here texts x addresses done below h.calls c.method_is_called.ensures c.in-Ok.called c.in-Ok.ensures.found
-    c.in-Ok.ensures.called).class) ∙ c.if-not-is_ready.false) c.if-place-eq-HOST_IO.true c.if-place-eq-WRITE.false)
+    c.in-Ok.ensures.called).class) ∙ c.if-not-is_ready.false) c.if-place-eq-HOST_IO.true c.if-place-eq-WRITE.false c.if-place-eq-CLASS_NAME.false c.if-place-eq-ARRAY_LIKE.false)
 
 pub overflow_cast-result-2 : goal.overflow_cast-result-2
 overflow_cast-result-2 c =

@@ -1,4 +1,5 @@
 use Rattle.std.proofs.Common.{ℕ, List, subst}
+use Rattle.std.proofs.lemmas.Result.{IfOk-weaker}
 use Rattle.jv_code.specs.declared.insn.Insn.TheVariants as insns
 use Rattle.jv_code.specs.declared.kinds.Invocation.{Invocation}
 use Rattle.jv_interp_members.specs.Known.{known}
@@ -13,4 +14,6 @@ execute_invokestatic-requires-clause-can g c =
     (g.S.Store.content c.args.store.now)) c.in-Static.is (c.args.texts.now.names, can_at _ _ _ _ _ _ _ _ _ _ c.in-Invoke.is c.requires.can)
 
 pub returns-in-Static-clause-done : goal.returns-in-Static-clause-done
-returns-in-Static-clause-done g c = rw c.in-Invoke.is (rw c.in-Static.is (c.execute_invokestatic.ensures.done c.args.texts.now.names))
+returns-in-Static-clause-done g c =
+    rw c.in-Invoke.is (rw c.in-Static.is
+    (IfOk-weaker c.execute_invokestatic.result _ _ (λ effect done. done c.args.texts.now.names) c.execute_invokestatic.ensures.done))
