@@ -1,5 +1,5 @@
 -- Calls, as instructions.
-use Rattle.std.proofs.Common.{◌≡◌, ℕ, ℤ, List, refl, sym, ap, ◌∙◌}
+use Rattle.std.proofs.Common.{◌≡◌, ◌⊎◌, inl, inr, ℕ, ℤ, List, refl, sym, ap, subst, ◌∙◌}
 use Rattle.jv_code.specs.Insns.{Instruction}
 use Rattle.jv_code.specs.declared.insn.Insn.TheVariants as insns
 use Rattle.jv_code.specs.declared.kinds.Invocation.TheVariants as invocations
@@ -19,9 +19,14 @@ use Rattle.jv_interp_held.specs.ClassStates.{AreClassStates}
 use Rattle.jv_interp_held.specs.declared.held.Held.{Held}
 use Rattle.jv_interp_held.specs.declared.effect.Effect.{Effect}
 use Rattle.jv_interp_held.specs.Growing.{DidIn}
-use Rattle.jv_interp_members.specs.Known.{Known}
+use Rattle.jv_link.specs.declared.site.Site.{Site}
+use Rattle.jv_link_cache.specs.declared.linked.Linked.{Linked}
+use Rattle.jv_link_cache.specs.Linked.{IsLinked}
+use Rattle.jv_interp_members.specs.Known.{Known, known}
+use Rattle.jv_meaning_world.specs.World.{World}
+use Rattle.jv_interp_members.specs.declared.calls.StaticCall.{StaticCall}
 use Rattle.jv_interp_members.specs.declared.calls.StaticCall.TheVariants as calls
-use Rattle.jv_interp_members.specs.Calling.{Calling, CanCall, Calls, CallingStatic, CanCallStatic, CallsStatic, RunsOnTwo}
+use Rattle.jv_interp_members.specs.Calling.{Calling, CanCall, Calls, CallingStatic, CanCallStatic, CallsStatic, IsUnmovedBy, RunsOnTwo}
 use Rattle.jv_interp_objects.specs.HostObjects.{CanRunOnTwo, MakesLike, NamesClass}
 use Rattle.jv_interp_held.specs.Executing.{Place, place}
 use Rattle.jv_interp_instructions.specs.InGuest.{ExecutesIn, CanExecute, Executed, CanExecuteAt, ExecutedAt}
@@ -163,3 +168,44 @@ pub parts_same :
     → place a words held blocks ≡ place b words_after held_after blocks → (a ≡ b) × (words ≡ words_after) × (held ≡ held_after)
 parts_same a b words words_after held held_after blocks e =
     (ap (λ (p : Place). p.at) e, ap (λ (p : Place). p.words) e, ap (λ (p : Place). p.held) e)
+
+-- a method of host/Io that is still to be run has changed nothing
+pub not_moved :
+    (call : StaticCall) → (call ≡ calls.ClassName) ⊎ (call ≡ calls.ArrayLike) → (before after : Place) → IsUnmovedBy call before after → after ≡ before
+not_moved call (inl e) before after u = subst (λ (x : StaticCall). IsUnmovedBy x before after) e u
+not_moved call (inr e) before after u = subst (λ (x : StaticCall). IsUnmovedBy x before after) e u
+
+-- ---- what linking has found more changes nothing
+
+module _ (states : List ClassState) (insn : Instruction) (next : ℕ) (world : World) (before after : Linked) (site : Site) (texts : List (List ℕ)) (linked : IsLinked world after) where
+  relinked :
+      (here : Place) (c : Context) (addresses : List ℕ) (done : Memory × EffectOfNames) (below : List ℕ)
+      → ExecutesIn insn next (known world before site) texts here c addresses done below
+      → ExecutesIn insn next (known world after site) texts here c addresses done below
+  relinked here c addresses done below h = record {
+    executes = h.executes;
+    known = record { world = h.known.world; guests = h.known.guests; few = h.known.few; linked = linked; site = h.known.site };
+    loadable = h.loadable;
+    units = h.units;
+  }
+
+  pub can_relinked :
+      (at : Registers) (words : List ℕ) (held : Held) (blocks : Blocks)
+      → CanExecuteAt states insn next (known world before site) texts at words held blocks
+      → CanExecuteAt states insn next (known world after site) texts at words held blocks
+  can_relinked at words held blocks h = record {
+    can = record {
+      c = h.can.c;
+      addresses = h.can.addresses;
+      done = h.can.done;
+      below = h.can.below;
+      executes = relinked (place at words held blocks) h.can.c h.can.addresses h.can.done h.can.below h.can.executes;
+      room = h.can.room;
+    };
+    states_are = h.states_are;
+  }
+
+  pub executed_relinked :
+      (here there : Place) (effect : Effect) → ExecutedAt states insn next (known world after site) texts here there effect
+      → ExecutedAt states insn next (known world before site) texts here there effect
+  executed_relinked here there effect m c addresses done below h states_are = m c addresses done below (relinked here c addresses done below h) states_are

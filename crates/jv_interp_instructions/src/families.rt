@@ -12,9 +12,7 @@ ghost use Rattle.jv_interp_instructions.specs.InGuest.{CanExecuteAt, ExecutedAt,
 
 use crate::array_loads::{execute_array_length, execute_array_load, execute_reference_array_load};
 use crate::array_stores::execute_array_store;
-use crate::calls::{
-    execute_invokeinterface, execute_invokespecial, execute_invokestatic, execute_invokevirtual,
-};
+use crate::calls::{execute_invokeinterface, execute_invokespecial, execute_invokevirtual};
 use crate::executing::execute;
 use crate::fields::{execute_getfield, execute_getstatic, execute_putfield, execute_putstatic};
 use crate::long_constants::execute_pool_long_constant;
@@ -22,7 +20,7 @@ use crate::on_words::{execute_division, execute_return};
 use crate::pool_constants::execute_pool_constant;
 use jv_code::{FieldAccess, Insn, Invocation};
 use jv_interp_held::{ClassState, Effect, Held};
-use jv_interp_members::{Current, Methods};
+use jv_interp_members::{Current, Methods, StaticCall, call_static};
 use jv_interp_objects::{Texts, aastore, checkcast, create, instanceof};
 use jv_interp_words::Registers;
 use jv_link::Site;
@@ -366,6 +364,7 @@ impl Execution for StaticCalls {
         next: u32,
         insn: Insn<&[u8]>,
     ) -> Result<Effect, OutOfMemory> {
+        execution_keeps();
         let current = Current {
             classes,
             methods,
@@ -375,9 +374,13 @@ impl Execution for StaticCalls {
         };
         match insn {
             Insn::Invoke(how, index) => match how {
-                Invocation::Static => {
-                    execute_invokestatic(current, linked, store, held, words, at, index)
-                }
+                Invocation::Static => match call_static(current, linked, held, words, at, index) {
+                    StaticCall::Has(effect) => Ok(effect),
+                    StaticCall::ClassName | StaticCall::ArrayLike => execute_apart(
+                        classes, linked, methods, texts, site, states, store, held, words, at,
+                        next, insn,
+                    ),
+                },
                 _ => execute_apart(
                     classes, linked, methods, texts, site, states, store, held, words, at, next,
                     insn,
