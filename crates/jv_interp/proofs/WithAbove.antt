@@ -13,7 +13,7 @@ use Rattle.jv_meaning_world.specs.Laws.Above.{IsWayUp}
 use Rattle.jv_meaning_world.specs.Numbers.{IsNumbered, number_named}
 use Rattle.jv_meaning_world.proofs.Up.{above_by_ways, super_is_named, named_stands, same_name, none, first, later}
 use Rattle.jv_meaning_world.proofs.OrderChains.{any_made, any_found, all_at}
-use Rattle.jv_interp.specs.VerifiedClasses.{TellsEach, holds_with_above, holds_if_above}
+use Rattle.jv_interp.specs.VerifiedClasses.{TellsEach, AreToldBefore, holds_with_above, holds_if_above}
 
 -- ---- what is above a class stands in the world
 
@@ -100,6 +100,17 @@ class_there : (world : World) (k : ℕ) → k < length world → (l : Loaded) ×
 class_there [] k h = absurd (omega (arith, h))
 class_there (l ∷ world) zero h = (l, refl)
 class_there (l ∷ world) (suc k) h = class_there world k (omega (arith, h))
+
+-- flags tell true of one more
+pub told_next : (flags : List Bool) (count : ℕ) (told : Bool) → told ≡ true → ((t : Bool) → slice_get flags count ≡ Some t → told ≡ t)
+    → AreToldBefore flags count → AreToldBefore flags (count + 1)
+told_next flags count told on is before number t less at = by_number (number == count) refl
+  where
+    by_number : (b : Bool) → (number == count) ≡ b → t ≡ true
+    by_number true e = sym (is t (subst (λ (n : ℕ). slice_get flags n ≡ Some t) (eqb-true number count e) at)) ∙ on
+    by_number false e =
+        let unlike = eqb-false number count e in
+        before number t (omega (arith, less, unlike)) at
 
 module _ (world : World) (flags : List Bool) (class other : ℕ) where
   pub next_holds :

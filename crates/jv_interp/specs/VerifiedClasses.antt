@@ -1,6 +1,6 @@
 -- Which classes of a guest were accepted together with all classes and interfaces above them (JVMS 4.10, 5.4.1), by their numbers: as the
 -- verdicts on the guest's files tell it.
-use Rattle.std.specs.Prelude.{◌≡◌, ℕ, Bool, true, false, not, ◌&&◌, ◌||◌, ◌+◌, List, ◌++◌, length, replicate, Option, Some, None, slice_get}
+use Rattle.std.specs.Prelude.{◌≡◌, ℕ, Bool, true, false, not, ◌&&◌, ◌||◌, ◌+◌, ◌<◌, List, ◌++◌, length, replicate, Option, Some, None, slice_get}
 use Rattle.std.specs.List.{filter_map, list_all}
 use Rattle.jv_meaning_world.specs.declared.verdict.LoadVerdict.TheVariants.{Version, Format, Unsupported, Reserved, Duplicate}
 use Rattle.jv_meaning_world.specs.Library.{with_library}
@@ -34,6 +34,10 @@ accepted_by host all = replicate host true ++ filter_map class_accepted all
 -- what a test says of each class of a world, by the class's number
 abbrev pub TellsEach : World → List Bool → (Loaded → Bool) → Type 0
 TellsEach world flags test = (number : ℕ) (l : Loaded) → slice_get world number ≡ Some l → slice_get flags number ≡ Some (test l)
+
+-- flags tell true of each of the first ones
+abbrev pub AreToldBefore : List Bool → ℕ → Type 0
+AreToldBefore flags count = (number : ℕ) (told : Bool) → number < count → slice_get flags number ≡ Some told → told ≡ true
 
 -- a test that is passed by a class, where that is above another one
 abbrev pub holds_if_above : World → (Loaded → Bool) → Loaded → Loaded → Bool

@@ -49,7 +49,7 @@ fn begin_in_room<'a, S: Store>(
     let Ok(linked) = link(alloc, classes) else {
         return Err(OutOfMemory);
     };
-    let methods = Methods::of(alloc, classes, &linked)?;
+    let methods = Methods::of(alloc, classes)?;
     let texts = Texts::of(alloc, state, classes)?;
     let verified = verified_classes(alloc, &judged)?;
     let program = Program {

@@ -1,11 +1,11 @@
 //! Which classes were accepted with all that is above them.
 
-ghost use Rattle.std.specs.Prelude.{◌≡◌, ◌<◌, Bool, Some, IfOk, length, slice_get};
+ghost use Rattle.std.specs.Prelude.{◌≡◌, ◌<◌, Bool, Some, IfOk, IsTrue, length, slice_get};
 ghost use Rattle.std.specs.List.{list_all};
 ghost use Rattle.jv_meaning_world.specs.World.{Loaded};
 ghost use Rattle.jv_meaning_world.specs.Above.{above};
 ghost use Rattle.jv_meaning_world.specs.Numbers.{HoldsAtNumber, HoldsAtBoth, IsNumbered};
-ghost use Rattle.jv_interp.specs.VerifiedClasses.{TellsEach, TellWithAbove, AreVerifiedClasses, holds_if_above};
+ghost use Rattle.jv_interp.specs.VerifiedClasses.{TellsEach, AreToldBefore, TellWithAbove, AreVerifiedClasses, holds_if_above};
 
 use crate::accepted::accepted_classes;
 use jv_loader::ClassTable;
@@ -19,6 +19,18 @@ fn is_told(flags: &[bool], class: usize) -> bool
     class < flags.len() && flags[class]
 }
 
+/// Whether flags tell true of each class.
+fn are_all_told(table: &ClassTable<'_>, flags: &[bool]) -> bool
+    ensures { IsTrue result → AreToldBefore flags.now (length table.now) }
+{
+    for class in 0..table.count() {
+        if !is_told(flags, class) {
+            return false;
+        }
+    }
+    true
+}
+
 /// Whether another class is not above a class, or flags tell true of it.
 fn is_told_if_above(table: &ClassTable<'_>, flags: &[bool], class: usize, other: usize) -> bool
     requires class { class < length table.now }
@@ -29,13 +41,17 @@ fn is_told_if_above(table: &ClassTable<'_>, flags: &[bool], class: usize, other:
     !table.is_above(other, class) || is_told(flags, other)
 }
 
-/// Whether flags tell true of each class that is above another one.
-fn are_told_above(table: &ClassTable<'_>, flags: &[bool], class: usize) -> bool
-    requires { class < length table.now }
+/// Whether flags tell true of each class that is above another one, where it may be sure that they do of each.
+fn are_told_above(table: &ClassTable<'_>, flags: &[bool], class: usize, sure: bool) -> bool
+    requires class { class < length table.now }
+    requires sure { IsTrue sure → AreToldBefore flags.now (length table.now) }
     ensures { (test : Loaded → Bool) → TellsEach table.now flags.now test
         → HoldsAtNumber table.now class (λ l. result ≡ list_all test (above table.now l.class)) }
 {
     table.is_numbered();
+    if sure {
+        return true;
+    }
     for other in 0..table.count() {
         if !is_told_if_above(table, flags, class, other) {
             return false;
@@ -54,9 +70,10 @@ fn told_with_above(
     ensures told { IfOk result (λ all. TellWithAbove table.now flags.now all.items) }
 {
     table.is_numbered();
+    let sure = are_all_told(table, flags);
     let mut all = Vec::with_capacity(alloc, table.count())?;
     for class in 0..table.count() {
-        all.push(is_told(flags, class) && are_told_above(table, flags, class))?;
+        all.push(is_told(flags, class) && are_told_above(table, flags, class, sure))?;
     }
     Ok(all)
 }

@@ -5,14 +5,13 @@ ghost use Rattle.jv_meaning_world.specs.Numbers.{HoldsAtNumber};
 ghost use Rattle.jv_meaning_world.specs.World.{World};
 ghost use Rattle.jv_meaning_world.specs.Overriding.{Declared};
 ghost use Rattle.jv_lookups.specs.Places.{method_at};
-ghost use Rattle.jv_link_cache.specs.Linked.{IsLinked};
 ghost use Rattle.jv_interp_words.specs.FramesInWords.{methods_of};
 ghost use Rattle.jv_interp_members.specs.Inside.Counted.{own_methods};
 ghost use Rattle.jv_interp_members.specs.Methods.{HasCode, IsRowOf, AreRows, AreMethods};
 
 use jv_code::Code;
 use jv_link::class_at;
-use jv_link_cache::{Body, Linked};
+use jv_link_cache::{Body, body_at};
 use jv_loader::{ClassTable, Classes, Place};
 use std::alloc::{AllocError, Global};
 
@@ -54,10 +53,8 @@ fn add_methods<'a>(
     rows: &mut Vec<MethodRow<'a>>,
     table: &ClassTable<'a>,
     class: usize,
-    linked: &Linked<'a>,
 ) -> Result<(), AllocError>
-    requires class { class < length table.now }
-    requires linked { IsLinked table.now linked.now }
+    requires { class < length table.now }
     ensures added { OnOk result (HoldsAtNumber table.now class (λ l. (methods : List Declared) → AreRows table.now methods rows.old.items
         → AreRows table.now (methods ++ own_methods l) rows.new.items)) }
     ensures count { OnOk result (HoldsAtNumber table.now class
@@ -66,7 +63,7 @@ fn add_methods<'a>(
     let loaded = class_at(table, class);
     for member in 0..loaded.method_count() {
         let place = Place { class, member };
-        let body = linked.body_at(place);
+        let body = body_at(table, place);
         rows.push(MethodRow {
             place,
             body,
@@ -76,20 +73,24 @@ fn add_methods<'a>(
     Ok(())
 }
 
+/// How many methods all classes have, if so many have numbers.
+fn method_count(table: &ClassTable<'_>) -> usize {
+    let mut count = 0usize;
+    for class in table.classes() {
+        count = count.wrapping_add(class.method_count());
+    }
+    count
+}
+
 /// The methods of all classes.
-fn all_methods<'a>(
-    alloc: Global,
-    table: &ClassTable<'a>,
-    linked: &Linked<'a>,
-) -> Result<Methods<'a>, AllocError>
-    requires { IsLinked table.now linked.now }
+fn all_methods<'a>(alloc: Global, table: &ClassTable<'a>) -> Result<Methods<'a>, AllocError>
     ensures { IfOk result (AreMethods table.now) }
 {
-    let mut rows = Vec::new(alloc);
-    let mut firsts = Vec::new(alloc);
+    let mut rows = Vec::with_capacity(alloc, method_count(table))?;
+    let mut firsts = Vec::with_capacity(alloc, table.count())?;
     for class in 0..table.count() {
         firsts.push(rows.len())?;
-        add_methods(&mut rows, table, class, linked)?;
+        add_methods(&mut rows, table, class)?;
     }
     if rows.len() <= 4_294_967_295 {
         Ok(Methods { rows, firsts })
@@ -111,20 +112,15 @@ fn number_within(first: usize, member: usize, count: usize) -> u32
 }
 
 impl<'a> Methods<'a> {
-    /// Those of the classes that `link` took.
+    /// Those of a guest's classes.
     ///
     /// # Errors
     ///
     /// Where the host had no memory for them, or there are 2^32 or more (own).
-    pub fn of(
-        alloc: Global,
-        classes: &Classes<'a>,
-        linked: &Linked<'a>,
-    ) -> Result<Methods<'a>, AllocError>
-        requires { IsLinked classes.now.world linked.now }
+    pub fn of(alloc: Global, classes: &Classes<'a>) -> Result<Methods<'a>, AllocError>
         ensures { IfOk result (AreMethods classes.now.world) }
     {
-        all_methods(alloc, classes.table(), linked)
+        all_methods(alloc, classes.table())
     }
 
     /// The method with a number.

@@ -1,8 +1,7 @@
 -- The code of a class's methods, as its file shows it.
-use Rattle.std.proofs.Common.{◌≡◌, ℕ, zero, suc, ◌<◌, ◌≤◌, List, [], ◌∷◌, length, map, get_or, Option, Some, None, refl, sym, ap, ◌∙◌, subst, arith}
+use Rattle.std.proofs.Common.{◌≡◌, ℕ, zero, suc, List, [], ◌∷◌, map, Option, Some, None, refl, sym, ap, ◌∙◌, subst}
 use Rattle.std.specs.Prelude.{slice_get}
 use Rattle.std.specs.Option.{option_map}
-use Rattle.std.proofs.lemmas.Option.{slice_get-get_or}
 use Rattle.jv_format.specs.Format.{◌>>=◌}
 use Rattle.jv_pool.specs.Constants.{Entry, class_name_at, named_at, NameAndDescriptor}
 use Rattle.jv_class_structure.specs.declared.member.Method.{Method as ShownMethod}
@@ -16,11 +15,6 @@ use Rattle.jv_meaning_world.specs.Overriding.{Declared}
 use Rattle.jv_meaning_world.specs.Verdicts.{declared_by}
 use Rattle.jv_lookups.specs.declared.place.Place.{Place}
 use Rattle.jv_lookups.specs.Places.{method_of as method_in, method_at}
-use Rattle.jv_link_cache.specs.declared.bodies.Body.{Body}
-use Rattle.jv_link_cache.specs.declared.bodies.ClassBodies.{ClassBodies}
-use Rattle.jv_link_cache.specs.Bodies.{IsBody}
-use Rattle.jv_link_cache.specs.Inside.Bodies.{AreBodiesAt, AreBodies}
-use Rattle.jv_link_cache.proofs.Eachwise.{within_list, each_found, none_beyond_each}
 
 same_some : {A : Type 0} → {x y : A} → Some x ≡ Some y → x ≡ y
 same_some e = cc
@@ -116,19 +110,7 @@ module _ (world : World) where
       by_class None class e = absurd cc
       by_class (Some l) class e = by_method l class (slice_get l.class.methods place.member) refl e
 
-  pub body_found : (rows : List ClassBodies) (place : Place) (d : Declared) (row : ClassBodies) (result : Option Body) →
-      AreBodies world (length world) rows → method_at world place ≡ Some d → place.class < length rows
-      → ((body : Option Body) → slice_get (get_or rows place.class row).bodies.items place.member ≡ Some body → result ≡ body) → IsBody d.method result
-  body_found rows place d row result are at h clause =
-      let p = parts place d at in
-      let own = each_found (AreBodiesAt world) (length world) rows place.class row are h p.l p.class in
-      let many = own.count_of in
-      let less = within_list p.l.class.methods place.member p.m p.method in
-      let fits : place.member < length (get_or rows place.class row).bodies.items = omega (arith, many, less) in
-      let here = slice_get-get_or (get_or rows place.class row).bodies.items place.member None fits in
-      let right = own.each place.member (get_or (get_or rows place.class row).bodies.items place.member None) here p.m p.method in
-      subst (λ (e : Declared). IsBody e.method result) (sym p.is)
-      (subst (IsBody p.m) (sym (clause (get_or (get_or rows place.class row).bodies.items place.member None) here)) right)
-
-  pub body_beyond : (rows : List ClassBodies) (place : Place) (d : Declared) → AreBodies world (length world) rows → method_at world place ≡ Some d → length rows ≤ place.class → ⊥
-  body_beyond rows place d are at h = let p = parts place d at in none_beyond_each (AreBodiesAt world) rows world place.class p.l are h p.class
+  -- what holds of the method that stands at a place holds of the one that is declared there
+  pub at_method : (P : Method → Type 0) (place : Place) (d : Declared) → method_at world place ≡ Some d
+      → ((l : Loaded) (m : Method) → slice_get world place.class ≡ Some l → slice_get l.class.methods place.member ≡ Some m → P m) → P d.method
+  at_method P place d at each = let p = parts place d at in subst (λ (e : Declared). P e.method) (sym p.is) (each p.l p.m p.class p.method)

@@ -1,6 +1,7 @@
 pub mod AtOnce
 pub mod Begun
 pub mod Bodied
+pub mod Finding
 pub mod Going
 pub mod Inherited
 pub mod Eachwise
@@ -9,4 +10,5 @@ pub mod Selecting
 pub mod CatchTypes
 pub mod Ranked
 pub mod Reaching
+pub mod Rowed
 pub mod Taking

@@ -1,6 +1,5 @@
 -- Spans of ranks, class by class.
-use Rattle.std.proofs.Common.{◌≡◌, ℕ, ◌<◌, ◌≤◌, List, length, Some, arith}
-use Rattle.std.specs.Prelude.{slice_get}
+use Rattle.std.proofs.Common.{ℕ, ◌<◌, ◌≤◌, List, length, arith}
 use Rattle.jv_meaning_world.specs.World.{World}
 use Rattle.jv_link_cache.specs.declared.ranks.Span.{Span}
 use Rattle.jv_link_cache.specs.Inside.Ranks.{IsTold, IsSpan}

@@ -1,21 +1,17 @@
 -- Handlers as reaches.
-use Rattle.std.proofs.Common.{◌≡◌, ◌≢◌, ◌==◌, ℕ, ◌<◌, Bool, true, false, ◌&&◌, List, length, IfSome, Option, Some, None, sym, ap, ◌∙◌, arith, refl}
-use Rattle.std.specs.Prelude.{slice_get, nat_le, nat_lt}
+use Rattle.std.proofs.Common.{◌≡◌, ◌≢◌, ℕ, ◌<◌, Bool, true, false, ◌&&◌, List, IfSome, Option, Some, None, ap, ◌∙◌, arith}
+use Rattle.std.specs.Prelude.{nat_le, nat_lt}
 use Rattle.std.proofs.lemmas.Bool.Decides.{nat_tests}
 use Rattle.jv_format.specs.declared.handlers.Handler.{Handler}
 use Rattle.jv_pool.specs.Constants.{Entry}
-use Rattle.jv_meaning_world.specs.World.{Loaded, World}
+use Rattle.jv_meaning_world.specs.World.{World}
 use Rattle.jv_meaning_world.specs.Numbers.{IsNumbered}
 use Rattle.jv_meaning_typing.specs.Typing.{covers}
-use Rattle.jv_link_handlers.specs.declared.reach.Reach.{Reach}
 use Rattle.jv_link_cache.specs.declared.ranks.Span.{Span}
-use Rattle.jv_link_cache.specs.Handlers.{catches}
-use Rattle.jv_link_cache.specs.Inside.Caught.{class_caught, IsCaught}
-use Rattle.jv_link_cache.specs.Inside.Ranks.{rank_of, is_in, IsSpan, SpansStand}
+use Rattle.jv_link_cache.specs.Inside.Caught.{class_caught}
+use Rattle.jv_link_cache.specs.Inside.Ranks.{rank_of, IsSpan}
 use Rattle.jv_link_cache.specs.Inside.Reaches.{IsCaughtSpan, IsReach}
-use Rattle.jv_link_cache.proofs.CatchTypes.{any_catches, class_catches, nothing_catches, same_some}
-use Rattle.jv_link_cache.specs.declared.caught.Caught.{Caught}
-use Rattle.jv_link_cache.specs.declared.caught.Caught.TheVariants.{Any, Class, Nothing}
+use Rattle.jv_link_cache.proofs.CatchTypes.{any_catches, class_catches, nothing_catches}
 
 in_all : (rank : ℕ) → rank < 65535 → (nat_le 0 rank && nat_lt rank 65535) ≡ true
 in_all rank less = grind (arith, nat_tests)

@@ -1,26 +1,23 @@
 -- The first handler that takes what is thrown (JVMS 2.10), found item by item or by a table.
-use Rattle.std.proofs.Common.{◌≡◌, ℕ, zero, suc, ◌+◌, ◌<◌, ◌≤◌, Bool, true, false, cond, List, [], ◌∷◌, Option, Some, None, length, drop, slice_get, take, get_or, IfSome, refl, sym, ap, ◌∙◌, subst, arith}
-use Rattle.std.specs.List.{find, position, position_from, position_or_len}
-use Rattle.std.specs.Option.{option_or, option_map}
+use Rattle.std.proofs.Common.{◌≡◌, ℕ, zero, suc, ◌+◌, ◌<◌, Bool, true, false, cond, List, [], ◌∷◌, Option, Some, None, length, drop, slice_get, take, refl, sym, ap, ◌∙◌, subst, arith}
+use Rattle.std.specs.List.{find, position, position_from}
+use Rattle.std.specs.Option.{option_or}
 use Rattle.std.proofs.lemmas.List.{take-append-drop}
 use Rattle.std.proofs.lemmas.List.Folds.{find-append}
 use Rattle.std.proofs.lemmas.Iterator.Adapters.{position_from-zero}
-use Rattle.std.proofs.lemmas.Option.{slice_get-get_or}
 use Rattle.jv_format.specs.declared.handlers.Handler.{Handler}
 use Rattle.jv_pool.specs.Constants.{Entry}
 use Rattle.jv_class.specs.Class.{Method}
 use Rattle.jv_meaning_world.specs.World.{Loaded, World, loaded}
 use Rattle.jv_meaning_world.specs.System.Io.{io}
 use Rattle.jv_classes.proofs.Numbers.{take_more, at_position, position_found}
-use Rattle.jv_link_handlers.specs.declared.reach.Reach.{Reach}
 use Rattle.jv_link_handlers.specs.declared.firsts.Firsts.{Firsts}
 use Rattle.jv_link_handlers.specs.Firsts.{reaches_to}
 use Rattle.jv_link_cache.specs.declared.caught.Caught.{Caught}
-use Rattle.jv_link_cache.specs.Handlers.{takes, handlers_of_code}
+use Rattle.jv_link_cache.specs.Handlers.{takes}
 use Rattle.jv_link_cache.specs.Inside.Caught.{IsCaught, AreCaught}
-use Rattle.jv_link_cache.specs.Inside.Each.{Each}
 use Rattle.jv_link_cache.specs.Inside.Ranks.{rank_of}
-use Rattle.jv_link_cache.specs.Inside.Reaches.{AreReaches, AreFirstsOf}
+use Rattle.jv_link_cache.specs.Inside.Reaches.{AreFirstsOf}
 use Rattle.jv_link_cache.proofs.CatchTypes.{same_some}
 use Rattle.jv_link_cache.proofs.Eachwise.{within_list, some_item}
 

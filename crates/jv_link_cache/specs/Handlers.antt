@@ -6,7 +6,6 @@ use Rattle.std.specs.Str.{bytes_eq}
 use Rattle.jv_format.specs.declared.handlers.Handler.{Handler}
 use Rattle.jv_pool.specs.Constants.{Entry, class_name_at}
 use Rattle.jv_class_structure.specs.Parts.{CodeSeen}
-use Rattle.jv_class.specs.Class.{Method}
 use Rattle.jv_meaning_world.specs.World.{Loaded, World}
 use Rattle.jv_meaning_world.specs.Above.{is_above}
 use Rattle.jv_meaning_world.specs.Numbers.{HoldsAtNumber}

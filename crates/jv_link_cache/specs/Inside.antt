@@ -1,4 +1,3 @@
-pub mod Bodies
 pub mod Caught
 pub mod Classes
 pub mod Each
@@ -8,6 +7,7 @@ pub mod Methods
 pub mod Orders
 pub mod Ranks
 pub mod Reaches
+pub mod Rows
 pub mod Selections
 pub mod Tasks
 pub mod Words

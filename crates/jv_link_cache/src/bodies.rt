@@ -1,22 +1,18 @@
-//! The methods with code (JVMS 4.6, 4.7.3), each at hand by two numbers.
+//! Methods with code (JVMS 4.6, 4.7.3).
 
-ghost use Rattle.std.specs.Prelude.{◌≡◌, ◌+◌, ◌<◌, Option, Some, IfOk, length, slice_get};
+ghost use Rattle.std.specs.Prelude.{◌≡◌, ◌<◌, Some, length, slice_get};
 ghost use Rattle.std.specs.Option.{option_map};
 ghost use Rattle.jv_class.specs.Class.{Method};
 ghost use Rattle.jv_class_structure.specs.Seen.{seen_code};
 ghost use Rattle.jv_classes.specs.Members.{IsMethod};
-ghost use Rattle.jv_meaning_world.specs.World.{World};
 ghost use Rattle.jv_meaning_world.specs.Overriding.{Declared};
 ghost use Rattle.jv_lookups.specs.Places.{method_at};
-ghost use Rattle.jv_link_cache.specs.declared.bodies.Body.{Body as BodyOfCode};
 ghost use Rattle.jv_link_cache.specs.Bodies.{IsArgumentCount, IsBody};
-ghost use Rattle.jv_link_cache.specs.Inside.Bodies.{AreBodiesOf, AreBodies, AreAllBodies};
 
 use jv_class::MethodCode;
 use jv_link::class_at;
 use jv_loader::{ClassTable, LoadedClass, Member, Place};
 use jv_text::{method_shape, types_agree};
-use std::alloc::{AllocError, Global};
 
 const STATIC: u16 = 0x0008;
 
@@ -29,12 +25,6 @@ pub struct Body<'a> {
     pub argument_words: usize,
     /// Whether it is an instance method, which is called on an object.
     pub has_receiver: bool,
-}
-
-/// The code of each method of a class, where it has code.
-#[derive(Drop)]
-pub(crate) struct ClassBodies<'a> {
-    pub(crate) bodies: Vec<Option<Body<'a>>>,
 }
 
 /// The code of the method at a place.
@@ -82,54 +72,26 @@ fn body_of<'a>(class: &LoadedClass<'a>, member: usize) -> Option<Body<'a>>
     })
 }
 
-/// The methods of a class.
-fn bodies_of<'a>(
-    alloc: Global,
-    class: &LoadedClass<'a>,
-) -> Result<Vec<Option<Body<'a>>>, AllocError>
-    ensures { IfOk result (λ bodies. AreBodiesOf class.now bodies.items) }
+/// The method at a place with its code (JVMS 4.6, 4.7.3), where it has code.
+pub fn body_at<'a>(table: &ClassTable<'a>, place: Place) -> Option<Body<'a>>
+    ensures { (d : Declared) → method_at table.now place ≡ Some d → IsBody d.method result }
 {
-    let mut bodies = Vec::with_capacity(alloc, class.method_count())?;
-    for member in 0..class.method_count() {
-        bodies.push(body_of(class, member))?;
+    if place.class >= table.count() {
+        return None;
     }
-    Ok(bodies)
+    let class = class_at(table, place.class);
+    if place.member >= class.method_count() {
+        return None;
+    }
+    body_of(class, place.member)
 }
 
-/// The methods of each class.
-pub(crate) fn all_bodies<'a>(
-    alloc: Global,
-    table: &ClassTable<'a>,
-) -> Result<Vec<ClassBodies<'a>>, AllocError>
-    ensures { IfOk result (λ rows. AreBodies table.now (length table.now) rows.items) }
+/// The code of the method at a place, where it has code.
+pub(crate) fn code_at<'a>(table: &ClassTable<'a>, place: Place) -> Option<MethodCode<'a>>
+    ensures { (d : Declared) → method_at table.now place ≡ Some d → option_map seen_code result ≡ d.method.code }
 {
-    let mut rows = Vec::with_capacity(alloc, table.count())?;
-    for class in 0..table.count() {
-        let bodies = bodies_of(alloc, class_at(table, class))?;
-        rows.push(ClassBodies { bodies })?;
-    }
-    Ok(rows)
-}
-
-/// The method at a place of a row.
-#[inline(always)]
-fn body_at<'a>(bodies: &[Option<Body<'a>>], member: usize) -> Option<Body<'a>>
-    ensures { (body : Option BodyOfCode) → slice_get bodies.now member ≡ Some body → result ≡ body }
-{
-    if member < bodies.len() {
-        bodies[member]
-    } else {
-        None
-    }
-}
-
-/// The method at a place, of those of each class.
-#[inline(always)]
-pub(crate) fn body_in<'a>(rows: &[ClassBodies<'a>], place: Place) -> Option<Body<'a>>
-    ensures { (world : World) (d : Declared) → AreAllBodies world rows.now → method_at world place ≡ Some d → IsBody d.method result }
-{
-    if place.class < rows.len() {
-        body_at(&rows[place.class].bodies, place.member)
+    if place.class < table.count() {
+        code_of(class_at(table, place.class), place.member)
     } else {
         None
     }

@@ -1,7 +1,6 @@
 //! What Fieldref constants resolve to (JVMS 5.4.3.2), once they were asked.
 
 ghost use Rattle.std.specs.Prelude.{◌≡◌, ◌<◌, IsSome, IsTrue, IfOk, IfSome, length, true};
-ghost use Rattle.std.specs.List.{All};
 ghost use Rattle.jv_class.specs.Class.{Field};
 ghost use Rattle.jv_meaning_world.specs.World.{World};
 ghost use Rattle.jv_meaning_world.specs.LookUps.{DeclaredField};
@@ -15,27 +14,16 @@ ghost use Rattle.jv_link.specs.UseRules.{AnswersUsable};
 ghost use Rattle.jv_link_cache.specs.FieldUses.{IsFieldUse, used_place};
 ghost use Rattle.jv_link_cache.specs.Inside.Words.{AreWords};
 ghost use Rattle.jv_link_cache.specs.Inside.Fields.{IsFound, IsEntry, IsUsedAtOnce};
+ghost use Rattle.jv_link_cache.specs.Inside.Rows.{AreRows};
 
 use crate::field_use::{FieldUse, field_used};
+use crate::rows::{Row, entry_in, keep};
 use crate::words::ClassWords;
 use jv_link::{LinkError, Site, Use, constants_field, usable_with};
 use jv_loader::{ClassTable, Classes};
-use std::alloc::{AllocError, Global};
 
-/// A Fieldref constant, by the number of its class and its index there, and what it resolves to.
-#[derive(Clone, Copy)]
-pub(crate) struct FieldEntry {
-    pub(crate) class: usize,
-    pub(crate) index: u16,
-    pub(crate) found: Result<FieldUse, LinkError>,
-}
-
-/// An entry that is empty: no Fieldref constant has the index 0.
-const NO_FIELD: FieldEntry = FieldEntry {
-    class: 0,
-    index: 0,
-    found: Err(LinkError::NoSuchFieldError),
-};
+/// What a Fieldref constant resolves to, where it was asked.
+pub(crate) type FieldEntry = Option<Result<FieldUse, LinkError>>;
 
 // Access flags of fields (JVMS table 4.5-A).
 const STATIC: u16 = 0x0008;
@@ -67,50 +55,33 @@ fn is_settable(how: Use, flags: u16) -> bool
 }
 
 /// What a constant resolves to, where that is known.
-fn known(
-    entries: &[FieldEntry],
-    at: usize,
-    class: usize,
-    index: u16,
-) -> Option<Result<FieldUse, LinkError>>
-    ensures { (world : World) → All (IsEntry world) entries.now → IfSome result (IsFound world class index) }
+#[inline(always)]
+fn known(rows: &[Row<FieldEntry>], class: usize, index: u16) -> Option<Result<FieldUse, LinkError>>
+    ensures { (world : World) → AreRows (IsEntry world) rows.now → IfSome result (IsFound world class index) }
 {
-    if at < entries.len() && entries[at].class == class && entries[at].index == index {
-        return Some(entries[at].found);
+    match entry_in(rows, class, usize::from(index)) {
+        Some(entry) => *entry,
+        None => None,
     }
-    None
 }
 
 /// The field that a constant resolves to, where that is known and an instruction can use it in every method of the class.
 #[inline(always)]
 pub(crate) fn usable_at_once(
-    entries: &[FieldEntry],
-    at: usize,
+    rows: &[Row<FieldEntry>],
     class: usize,
     index: u16,
     how: Use,
 ) -> Option<FieldUse>
-    ensures { (world : World) → All (IsEntry world) entries.now → IfSome result (λ used. IsUsedAtOnce world class index how used) }
+    ensures { (world : World) → AreRows (IsEntry world) rows.now → IfSome result (λ used. IsUsedAtOnce world class index how used) }
 {
-    if at < entries.len()
-        && entries[at].class == class
-        && entries[at].index == index
-        && let Ok(used) = entries[at].found
+    if let Some(Ok(used)) = known(rows, class, index)
         && is_used_so(how, used.access_flags)
         && is_settable(how, used.access_flags)
     {
         return Some(used);
     }
     None
-}
-
-/// Keeps what a constant resolves to.
-fn keep(entries: &mut [FieldEntry], at: usize, entry: FieldEntry)
-    ensures { (world : World) → All (IsEntry world) entries.old → IsEntry world entry → All (IsEntry world) entries.new }
-{
-    if at < entries.len() {
-        entries[at] = entry;
-    }
 }
 
 /// What a constant resolves to, by its names.
@@ -133,10 +104,9 @@ fn found_anew(
     }
 }
 
-/// What a constant resolves to, by its names; the entry at a place keeps it.
+/// What a constant resolves to, by its names; its entry keeps it.
 fn found_and_kept(
-    entries: &mut [FieldEntry],
-    at: usize,
+    rows: &mut [Row<FieldEntry>],
     table: &ClassTable<'_>,
     classes: &Classes<'_>,
     words: &[ClassWords],
@@ -144,30 +114,21 @@ fn found_and_kept(
     index: u16,
 ) -> Result<FieldUse, LinkError>
     requires same { classes.now.world ≡ table.now }
-    requires entries { All (IsEntry table.now) entries.old }
+    requires rows { AreRows (IsEntry table.now) rows.old }
     requires words { AreWords table.now words.now }
     requires class { class < length table.now }
     requires index { HoldsAtNumber table.now class (λ l. IsSome (field_operand l.class index)) }
     ensures found { IsFound table.now class index result }
-    ensures entries { All (IsEntry table.now) entries.new }
+    ensures rows { AreRows (IsEntry table.now) rows.new }
 {
     let found = found_anew(table, classes, words, class, index);
-    keep(
-        entries,
-        at,
-        FieldEntry {
-            class,
-            index,
-            found,
-        },
-    );
+    keep(rows, class, usize::from(index), None, Some(found));
     found
 }
 
-/// What a constant resolves to, by the entry at a place, where it is there.
+/// What a constant resolves to, by its entry, where that is there.
 pub(crate) fn field_by(
-    entries: &mut [FieldEntry],
-    at: usize,
+    rows: &mut [Row<FieldEntry>],
     table: &ClassTable<'_>,
     classes: &Classes<'_>,
     words: &[ClassWords],
@@ -175,28 +136,17 @@ pub(crate) fn field_by(
     index: u16,
 ) -> Result<FieldUse, LinkError>
     requires same { classes.now.world ≡ table.now }
-    requires entries { All (IsEntry table.now) entries.old }
+    requires rows { AreRows (IsEntry table.now) rows.old }
     requires words { AreWords table.now words.now }
     requires class { class < length table.now }
     requires index { HoldsAtNumber table.now class (λ l. IsSome (field_operand l.class index)) }
     ensures found { IsFound table.now class index result }
-    ensures entries { All (IsEntry table.now) entries.new }
+    ensures rows { AreRows (IsEntry table.now) rows.new }
 {
-    if let Some(found) = known(entries, at, class, index) {
+    if let Some(found) = known(rows, class, index) {
         return found;
     }
-    found_and_kept(entries, at, table, classes, words, class, index)
-}
-
-/// So many entries, all of them empty.
-pub(crate) fn empty_fields(alloc: Global, count: usize) -> Result<Vec<FieldEntry>, AllocError>
-    ensures { (world : World) → IfOk result (λ entries. All (IsEntry world) entries.items) }
-{
-    let mut entries = Vec::with_capacity(alloc, count)?;
-    for _ in 0..count {
-        entries.push(NO_FIELD)?;
-    }
-    Ok(entries)
+    found_and_kept(rows, table, classes, words, class, index)
 }
 
 /// A field, where an instruction at a site can use it.

@@ -23,7 +23,7 @@ ghost use Rattle.jv_link_cache.specs.Inside.Reaches.{AreFirstsOf};
 use crate::bodies::code_of;
 use crate::caught::{Caught, all_caught, is_caught, unknown};
 use crate::ranks::{NO_RANK, Ranks, Span, rank_of, ranks_of, spans_of};
-use crate::reaches::firsts_of_handlers;
+use crate::reaches::{are_many, firsts_of_handlers};
 use jv_format::{ExceptionTable, Handler};
 use jv_link::class_at;
 use jv_link_handlers::{Firsts, first_at};
@@ -101,6 +101,18 @@ fn known_at(
     }
 }
 
+/// How many of a class's constants are asked for the names that its handlers catch: none where it has no handlers.
+fn asked_count(class: &LoadedClass<'_>, pool: &Pool<'_>) -> u16 {
+    for member in 0..class.method_count() {
+        if let Some(code) = code_of(class, member)
+            && code.exception_table.len() > 0
+        {
+            return pool.count();
+        }
+    }
+    0
+}
+
 /// What is known of the handlers of the methods of a class with these constants.
 fn handlers_with(
     alloc: Global,
@@ -113,7 +125,7 @@ fn handlers_with(
     ensures { (ranks : List ℕ) → SpansStand table.now ranks spans.now
         → IfOk result (λ methods. Each (AreKnownAt table.now ranks class.now) (length class.now.class.methods) methods.items) }
 {
-    let mut known = unknown(alloc, pool.count())?;
+    let mut known = unknown(alloc, asked_count(class, pool))?;
     let mut methods = Vec::with_capacity(alloc, class.method_count())?;
     for member in 0..class.method_count() {
         let handlers = known_at(alloc, table, spans, class, pool, &mut known, member)?;
@@ -173,12 +185,34 @@ pub(crate) fn all_handlers(
     Ok(rows)
 }
 
+/// Whether a method of a class has many handlers.
+fn has_many(class: &LoadedClass<'_>) -> bool {
+    for member in 0..class.method_count() {
+        if let Some(code) = code_of(class, member)
+            && are_many(code.exception_table)
+        {
+            return true;
+        }
+    }
+    false
+}
+
+/// The same of one of all classes; else no span is asked for.
+fn have_many(table: &ClassTable<'_>) -> bool {
+    for class in table.classes() {
+        if has_many(class) {
+            return true;
+        }
+    }
+    false
+}
+
 /// The handlers of all classes.
 pub(crate) fn all_known(alloc: Global, table: &ClassTable<'_>) -> Result<Handlers, AllocError>
     ensures { IfOk result (λ handlers. AreHandlers table.now handlers.ranks.items (length table.now) handlers.rows.items) }
 {
     let known = ranks_of(alloc, table)?;
-    let spans = spans_of(alloc, table, &known)?;
+    let spans = spans_of(alloc, table, &known, have_many(table))?;
     let rows = all_handlers(alloc, table, &spans)?;
     let Ranks { ranks, sizes: _ } = known;
     Ok(Handlers { ranks, rows })

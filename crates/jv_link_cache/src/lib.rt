@@ -1,5 +1,5 @@
-//! What a guest's classes link to (JVMS 5.4), made once: [`link`] takes memory for what the steps of a machine ask again and
-//! again, and [`Linked`] answers as the calls of `jv_link` do, and takes none.
+//! What a guest's classes link to (JVMS 5.4), found once: [`Linked`] answers as the calls of `jv_link` do, and keeps
+//! what the steps of a machine ask again and again, where there is memory for it.
 #![tactic(auto)]
 
 mod bodies;
@@ -17,11 +17,12 @@ mod orders;
 mod places;
 mod ranks;
 mod reaches;
+mod rows;
 mod selections;
 mod tasks;
 mod words;
 
-pub use bodies::Body;
+pub use bodies::{Body, body_at};
 pub use class_use::ClassUse;
 pub use field_use::{FieldKind, FieldUse};
 pub use law::words_are_inherited;

@@ -7,7 +7,6 @@ ghost use Rattle.jv_meaning_world.specs.Verdicts.{is_loadable};
 ghost use Rattle.jv_meaning_typing.specs.Layout.{object_words};
 ghost use Rattle.jv_link.specs.Orders.{IsOrder};
 ghost use Rattle.jv_meaning_world.specs.Overriding.{Declared};
-ghost use Rattle.jv_link_cache.specs.Bodies.{IsBody};
 ghost use Rattle.jv_link_cache.specs.Places.{IsWordOf, static_words};
 ghost use Rattle.jv_meaning_world.specs.Numbers.{HoldsAtNumber};
 ghost use Rattle.jv_meaning_typing.specs.Operands.{class_operand, field_operand, method_operand};
@@ -22,39 +21,36 @@ ghost use Rattle.jv_link_cache.specs.Handlers.{IsTaken};
 ghost use Rattle.jv_link_cache.specs.Linked.{IsLinked};
 ghost use Rattle.jv_link_cache.specs.Tasks.{settings_of, IsInitializer, IsOrderOf};
 
-use crate::bodies::{Body, ClassBodies, all_bodies, body_in};
+use crate::bodies::code_at;
 use crate::class_use::ClassUse;
-use crate::classes::{ClassEntry, class_by, empty_classes, used_class};
+use crate::classes::{ClassEntry, class_by, used_class};
 use crate::field_use::FieldUse;
-use crate::fields::{FieldEntry, empty_fields, field_by, usable_at_once, used_field};
+use crate::fields::{FieldEntry, field_by, usable_at_once, used_field};
 use crate::handlers::{Handlers, all_known, handler_in};
 use crate::method_use::MethodUse;
-use crate::methods::{MethodEntry, called_method, empty_methods, method_by};
+use crate::methods::{MethodEntry, called_method, method_by};
 use crate::orders::{ClassOrder, all_orders, order_in};
-use crate::places::{Named, entries_of, entry_place, selection_count};
-use crate::selections::{Selection, empty_selections, selection_by};
+use crate::places::{Named, constant_rows, selection_rows};
+use crate::rows::Row;
+use crate::selections::{Selection, selection_by};
 use crate::tasks::{ClassTasks, all_tasks, initializer_at, settings_at};
 use crate::words::{ClassWords, all_words, object_words_in, word_in_all};
 use jv_link::{ClassRef, LinkError, MethodTarget, Site, Use, select};
 use jv_loader::{ClassTable, Classes, OutOfMemory, Place};
 use std::alloc::Global;
 
-/// What a guest's classes link to (JVMS 5.4), with memory for what steps ask again: what a constant of a class resolves to, and
-/// which method a call runs. It is asked with the classes that [`link`] took.
+/// What a guest's classes link to (JVMS 5.4), and what steps ask again: what a constant of a class resolves to, and which
+/// method a call runs. It is asked with the classes that [`link`] took.
 pub struct Linked<'a> {
-    class_firsts: Vec<usize>,
-    classes: Vec<Option<ClassEntry<'a>>>,
-    field_firsts: Vec<usize>,
-    fields: Vec<FieldEntry>,
-    method_firsts: Vec<usize>,
-    methods: Vec<Option<MethodEntry>>,
-    virtuals: Vec<Option<Selection>>,
-    interfaces: Vec<Option<Selection>>,
-    specials: Vec<Option<Selection>>,
+    classes: Vec<Row<ClassEntry<'a>>>,
+    fields: Vec<Row<FieldEntry>>,
+    methods: Vec<Row<MethodEntry>>,
+    virtuals: Vec<Row<Option<Selection>>>,
+    interfaces: Vec<Row<Option<Selection>>>,
+    specials: Vec<Row<Option<Selection>>>,
     words: Vec<ClassWords>,
     statics: usize,
     orders: Vec<ClassOrder>,
-    bodies: Vec<ClassBodies<'a>>,
     tasks: Vec<ClassTasks>,
     handlers: Handlers,
 }
@@ -62,11 +58,8 @@ pub struct Linked<'a> {
 impl Drop for Linked<'_> {
     fn drop(self) {
         let Linked {
-            class_firsts: _,
             classes: _,
-            field_firsts: _,
             fields: _,
-            method_firsts: _,
             methods: _,
             virtuals: _,
             interfaces: _,
@@ -74,7 +67,6 @@ impl Drop for Linked<'_> {
             words: _,
             statics: _,
             orders: _,
-            bodies: _,
             tasks: _,
             handlers: _,
         } = self;
@@ -90,35 +82,26 @@ fn link_in<'a>(
     requires { classes.now.world ≡ table.now }
     ensures { IfOk result (IsLinked table.now) }
 {
-    let of_classes = entries_of(alloc, table, Named::Classes)?;
-    let of_fields = entries_of(alloc, table, Named::Fields)?;
-    let of_methods = entries_of(alloc, table, Named::Methods)?;
-    let selections = selection_count(table);
-    let class_entries = empty_classes(alloc, of_classes.count)?;
-    let fields = empty_fields(alloc, of_fields.count)?;
-    let methods = empty_methods(alloc, of_methods.count)?;
-    let virtuals = empty_selections(alloc, selections)?;
-    let interfaces = empty_selections(alloc, selections)?;
-    let specials = empty_selections(alloc, selections)?;
+    let of_classes = constant_rows(alloc, table, Named::Classes, None)?;
+    let of_fields = constant_rows(alloc, table, Named::Fields, None)?;
+    let of_methods = constant_rows(alloc, table, Named::Methods, None)?;
+    let virtuals = selection_rows(alloc, table, None)?;
+    let interfaces = selection_rows(alloc, table, None)?;
+    let specials = selection_rows(alloc, table, None)?;
     let words = all_words(alloc, table)?;
     let orders = all_orders(alloc, table, classes)?;
-    let bodies = all_bodies(alloc, table)?;
     let tasks = all_tasks(alloc, table)?;
     let handlers = all_known(alloc, table)?;
     Ok(Linked {
-        class_firsts: of_classes.firsts,
-        classes: class_entries,
-        field_firsts: of_fields.firsts,
-        fields,
-        method_firsts: of_methods.firsts,
-        methods,
+        classes: of_classes,
+        fields: of_fields,
+        methods: of_methods,
         virtuals,
         interfaces,
         specials,
         words: words.0,
         statics: words.1,
         orders,
-        bodies,
         tasks,
         handlers,
     })
@@ -157,9 +140,8 @@ impl<'a> Linked<'a> {
         ensures found { IsClassUsed classes.now.world site how index result }
         ensures linked { IsLinked classes.now.world self.new }
     {
-        let at = entry_place(&self.class_firsts, site.class, index);
         let table = classes.table();
-        let found = class_by(&mut self.classes, at, table, classes, site.class, index);
+        let found = class_by(&mut self.classes, table, classes, site.class, index);
         used_class(table, site, how, index, found)
     }
 
@@ -183,10 +165,8 @@ impl<'a> Linked<'a> {
         ensures used { IfOk result (IsClassUse classes.now.world) }
         ensures linked { IsLinked classes.now.world self.new }
     {
-        let at = entry_place(&self.class_firsts, site.class, index);
         class_by(
             &mut self.classes,
-            at,
             classes.table(),
             classes,
             site.class,
@@ -202,12 +182,7 @@ impl<'a> Linked<'a> {
             → IfSome result (λ used. IsFieldResolved world site how index (Ok used.place)) }
         ensures used { (world : World) → IsLinked world self.now → IfSome result (IsFieldUse world) }
     {
-        if site.class < self.field_firsts.len() {
-            let at = self.field_firsts[site.class].wrapping_add(usize::from(index));
-            usable_at_once(&self.fields, at, site.class, index, how)
-        } else {
-            None
-        }
+        usable_at_once(&self.fields, site.class, index, how)
     }
 
     /// What [`Linked::field_use`] answers, by the entry of the constant, which then keeps what it resolves to.
@@ -227,11 +202,9 @@ impl<'a> Linked<'a> {
         ensures used { IfOk result (IsFieldUse classes.now.world) }
         ensures linked { IsLinked classes.now.world self.new }
     {
-        let at = entry_place(&self.field_firsts, site.class, index);
         let table = classes.table();
         let found = field_by(
             &mut self.fields,
-            at,
             table,
             classes,
             &self.words,
@@ -336,9 +309,8 @@ impl<'a> Linked<'a> {
         ensures called { IfOk result (IsMethodUse classes.now.world) }
         ensures linked { IsLinked classes.now.world self.new }
     {
-        let at = entry_place(&self.method_firsts, site.class, index);
         let table = classes.table();
-        let found = method_by(&mut self.methods, at, table, classes, site.class, index);
+        let found = method_by(&mut self.methods, table, classes, site.class, index);
         called_method(table, site, how, index, found)
     }
 
@@ -446,14 +418,6 @@ impl<'a> Linked<'a> {
         order_in(&self.orders, class)
     }
 
-    /// The method at a place with its code (JVMS 4.6, 4.7.3), where it has code.
-    #[inline(always)]
-    pub fn body_at(&self, place: Place) -> Option<Body<'a>>
-        ensures { (world : World) (d : Declared) → IsLinked world self.now → method_at world place ≡ Some d → IsBody d.method result }
-    {
-        body_in(&self.bodies, place)
-    }
-
     /// Where the first handler of the method at a place begins that takes an object of a class, thrown at an offset (JVMS 2.10, 4.7.3).
     /// It takes no memory, and the same time whatever the handlers are, but for some steps for each doubling of their number.
     pub fn handler_at(
@@ -467,13 +431,13 @@ impl<'a> Linked<'a> {
         ensures { (d : Declared)
             → IsLinked table.now self.now → method_at table.now place ≡ Some d → IsTaken table.now d class offset result }
     {
-        let body = self.body_at(place)?;
+        let code = code_at(table, place)?;
         handler_in(
             table,
             &self.handlers.ranks,
             &self.handlers.rows,
             place,
-            body.code.exception_table,
+            code.exception_table,
             offset,
             class,
         )

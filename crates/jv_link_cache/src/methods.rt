@@ -1,7 +1,6 @@
 //! What Methodref and InterfaceMethodref constants resolve to (JVMS 5.4.3.3, 5.4.3.4), once they were asked.
 
 ghost use Rattle.std.specs.Prelude.{◌≡◌, ◌<◌, IsSome, IfOk, IfSome, length};
-ghost use Rattle.std.specs.List.{All};
 ghost use Rattle.jv_meaning_world.specs.World.{World};
 ghost use Rattle.jv_meaning_world.specs.Numbers.{HoldsAtNumber};
 ghost use Rattle.jv_meaning_typing.specs.Operands.{method_operand};
@@ -10,46 +9,28 @@ ghost use Rattle.jv_link.specs.Answers.{IsMethodResolved};
 ghost use Rattle.jv_link.specs.UseRules.{AnswersCallable};
 ghost use Rattle.jv_link_cache.specs.MethodUses.{IsMethodUse, used_target};
 ghost use Rattle.jv_link_cache.specs.Inside.Methods.{IsFound, IsEntry};
+ghost use Rattle.jv_link_cache.specs.Inside.Rows.{AreRows};
 
 use crate::method_use::{MethodUse, method_called};
+use crate::rows::{Row, entry_in, keep};
 use jv_link::{LinkError, Site, Use, callable_with, constants_method};
 use jv_loader::{ClassTable, Classes};
-use std::alloc::{AllocError, Global};
 
-/// A Methodref or InterfaceMethodref constant, by the number of its class and its index there, and what it resolves to.
-#[derive(Clone, Copy)]
-pub(crate) struct MethodEntry {
-    pub(crate) class: usize,
-    pub(crate) index: u16,
-    pub(crate) found: Result<MethodUse, LinkError>,
-}
+/// What a Methodref or InterfaceMethodref constant resolves to, where it was asked.
+pub(crate) type MethodEntry = Option<Result<MethodUse, LinkError>>;
 
 /// What a constant resolves to, where that is known.
 #[inline(always)]
 fn known(
-    entries: &[Option<MethodEntry>],
-    at: usize,
+    rows: &[Row<MethodEntry>],
     class: usize,
     index: u16,
 ) -> Option<Result<MethodUse, LinkError>>
-    ensures { (world : World) → All (IsEntry world) entries.now → IfSome result (IsFound world class index) }
+    ensures { (world : World) → AreRows (IsEntry world) rows.now → IfSome result (IsFound world class index) }
 {
-    if at < entries.len()
-        && let Some(entry) = &entries[at]
-        && entry.class == class
-        && entry.index == index
-    {
-        return Some(entry.found);
-    }
-    None
-}
-
-/// Keeps what a constant resolves to.
-fn keep(entries: &mut [Option<MethodEntry>], at: usize, entry: MethodEntry)
-    ensures { (world : World) → All (IsEntry world) entries.old → IsEntry world (Some entry) → All (IsEntry world) entries.new }
-{
-    if at < entries.len() {
-        entries[at] = Some(entry);
+    match entry_in(rows, class, usize::from(index)) {
+        Some(entry) => *entry,
+        None => None,
     }
 }
 
@@ -71,92 +52,67 @@ fn found_anew(
     }
 }
 
-/// What a constant resolves to, by its names; the entry at a place keeps it.
+/// What a constant resolves to, by its names; its entry keeps it.
 #[cold]
 #[inline(never)]
 fn found_and_kept(
-    entries: &mut [Option<MethodEntry>],
-    at: usize,
+    rows: &mut [Row<MethodEntry>],
     table: &ClassTable<'_>,
     classes: &Classes<'_>,
     class: usize,
     index: u16,
 ) -> Result<MethodUse, LinkError>
     requires same { classes.now.world ≡ table.now }
-    requires entries { All (IsEntry table.now) entries.old }
+    requires rows { AreRows (IsEntry table.now) rows.old }
     requires class { class < length table.now }
     requires index { HoldsAtNumber table.now class (λ l. IsSome (method_operand l.class index)) }
     ensures found { IsFound table.now class index result }
-    ensures entries { All (IsEntry table.now) entries.new }
+    ensures rows { AreRows (IsEntry table.now) rows.new }
 {
     let found = found_anew(table, classes, class, index);
-    keep(
-        entries,
-        at,
-        MethodEntry {
-            class,
-            index,
-            found,
-        },
-    );
+    keep(rows, class, usize::from(index), None, Some(found));
     found
 }
 
 /// The same, with room of its own for the answer, which is then not made where an entry is there.
 #[inline(always)]
 fn found_apart(
-    entries: &mut [Option<MethodEntry>],
-    at: usize,
+    rows: &mut [Row<MethodEntry>],
     table: &ClassTable<'_>,
     classes: &Classes<'_>,
     class: usize,
     index: u16,
 ) -> Result<MethodUse, LinkError>
     requires same { classes.now.world ≡ table.now }
-    requires entries { All (IsEntry table.now) entries.old }
+    requires rows { AreRows (IsEntry table.now) rows.old }
     requires class { class < length table.now }
     requires index { HoldsAtNumber table.now class (λ l. IsSome (method_operand l.class index)) }
     ensures found { IsFound table.now class index result }
-    ensures entries { All (IsEntry table.now) entries.new }
+    ensures rows { AreRows (IsEntry table.now) rows.new }
 {
-    found_and_kept(entries, at, table, classes, class, index)
+    found_and_kept(rows, table, classes, class, index)
 }
 
-/// What a constant resolves to, by the entry at a place, where it is there.
+/// What a constant resolves to, by its entry, where that is there.
 #[inline(always)]
 pub(crate) fn method_by(
-    entries: &mut [Option<MethodEntry>],
-    at: usize,
+    rows: &mut [Row<MethodEntry>],
     table: &ClassTable<'_>,
     classes: &Classes<'_>,
     class: usize,
     index: u16,
 ) -> Result<MethodUse, LinkError>
     requires same { classes.now.world ≡ table.now }
-    requires entries { All (IsEntry table.now) entries.old }
+    requires rows { AreRows (IsEntry table.now) rows.old }
     requires class { class < length table.now }
     requires index { HoldsAtNumber table.now class (λ l. IsSome (method_operand l.class index)) }
     ensures found { IsFound table.now class index result }
-    ensures entries { All (IsEntry table.now) entries.new }
+    ensures rows { AreRows (IsEntry table.now) rows.new }
 {
-    if let Some(found) = known(entries, at, class, index) {
+    if let Some(found) = known(rows, class, index) {
         return found;
     }
-    found_apart(entries, at, table, classes, class, index)
-}
-
-/// So many entries, all of them empty.
-pub(crate) fn empty_methods(
-    alloc: Global,
-    count: usize,
-) -> Result<Vec<Option<MethodEntry>>, AllocError>
-    ensures { (world : World) → IfOk result (λ entries. All (IsEntry world) entries.items) }
-{
-    let mut entries = Vec::with_capacity(alloc, count)?;
-    for _ in 0..count {
-        entries.push(None)?;
-    }
-    Ok(entries)
+    found_apart(rows, table, classes, class, index)
 }
 
 /// A method, where an instruction can call it.

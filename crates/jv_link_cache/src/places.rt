@@ -1,17 +1,25 @@
-//! Where entries stand. Nothing that is answered rests on these numbers: an entry says what it is of.
+//! How many entries there are. Nothing that is answered rests on these numbers.
 
+ghost use Rattle.std.specs.Prelude.{IfOk};
+ghost use Rattle.std.specs.List.{All};
+ghost use Rattle.jv_link_cache.specs.Inside.Rows.{IsEmptyRow};
+
+use crate::rows::{FEW_ENTRIES, Row, row_of};
 use jv_loader::{ClassTable, LoadedClass};
 use jv_pool::{Kind, Pool};
 use std::alloc::{AllocError, Global};
 
-/// How many constants have entries of their own; those of a larger guest share them.
+/// How many constants of a guest have entries of a kind from the start at most.
 const MOST_CONSTANTS: usize = 0x4_0000;
 
-/// How many calls of a kind have entries: a power of two.
+/// How many calls of a kind may have entries: a power of two.
 const MOST_SELECTIONS: usize = 0x1000;
 
-/// How many have them in a guest of few methods, those of the system among them; else a power of two, half as many as methods or more.
+/// How many may have them in a guest of few methods, those of the system among them; else a power of two, half as many as methods or more.
 const FEW_SELECTIONS: usize = 0x100;
+
+/// How many calls' entries a row has: neighbours are the methods that one class declares, called on objects of another.
+pub(crate) const SELECTIONS_IN_ROW: usize = 0x10;
 
 /// Which constants have entries in a table.
 #[derive(Clone, Copy)]
@@ -22,13 +30,6 @@ pub(crate) enum Named {
     Fields,
     /// Those that name methods, of classes and of interfaces.
     Methods,
-}
-
-/// For each class where its entries begin in a table, and how many there are of all.
-#[derive(Drop)]
-pub(crate) struct Entries {
-    pub(crate) firsts: Vec<usize>,
-    pub(crate) count: usize,
 }
 
 /// Whether the constant at an index has an entry.
@@ -50,34 +51,38 @@ fn linked_count(pool: &Pool<'_>, named: Named) -> u16 {
     count
 }
 
-/// The same of a class.
+/// How many constants of a class have entries from the start: those of a class that has more than a row gets while guests run.
 fn constant_count(class: &LoadedClass<'_>, named: Named) -> usize {
     match class.file() {
-        Some(file) => usize::from(linked_count(file.pool(), named)),
-        None => 0,
+        Some(file) if usize::from(file.pool().count()) > FEW_ENTRIES => {
+            usize::from(linked_count(file.pool(), named))
+        }
+        _ => 0,
     }
 }
 
-/// Where the entries of each class begin, one for each such constant of those before it.
-pub(crate) fn entries_of(
+/// A row for each class, for its constants that name something, by their indices.
+pub(crate) fn constant_rows<E: Copy>(
     alloc: Global,
     table: &ClassTable<'_>,
     named: Named,
-) -> Result<Entries, AllocError> {
-    let mut firsts = Vec::with_capacity(alloc, table.count())?;
-    let mut next = 0usize;
+    empty: E,
+) -> Result<Vec<Row<E>>, AllocError>
+    ensures { IfOk result (λ rows. All (IsEmptyRow empty) rows.items) }
+{
+    let mut rows = Vec::with_capacity(alloc, table.count())?;
+    let mut left = MOST_CONSTANTS;
     for class in table.classes() {
-        firsts.push(next)?;
-        next = next.wrapping_add(constant_count(class, named));
+        let count = constant_count(class, named).min(left);
+        left -= count;
+        let row = row_of(alloc, count, empty)?;
+        rows.push(row)?;
     }
-    Ok(Entries {
-        firsts,
-        count: next.min(MOST_CONSTANTS),
-    })
+    Ok(rows)
 }
 
-/// How many entries calls of a kind have.
-pub(crate) fn selection_count(table: &ClassTable<'_>) -> usize {
+/// How many entries calls of a kind may have.
+fn selection_count(table: &ClassTable<'_>) -> usize {
     let mut methods = 0usize;
     for class in table.classes() {
         methods = methods.wrapping_add(class.method_count());
@@ -87,12 +92,19 @@ pub(crate) fn selection_count(table: &ClassTable<'_>) -> usize {
         .next_power_of_two()
 }
 
-/// Where the entry of a constant stands, by the first of its class.
-#[inline(always)]
-pub(crate) fn entry_place(firsts: &[usize], class: usize, index: u16) -> usize {
-    let first = match firsts.get(class) {
-        Some(first) => *first,
-        None => 0,
-    };
-    first.wrapping_add(usize::from(index)) & (MOST_CONSTANTS - 1)
+/// Rows for calls of a kind.
+pub(crate) fn selection_rows<E: Copy>(
+    alloc: Global,
+    table: &ClassTable<'_>,
+    empty: E,
+) -> Result<Vec<Row<E>>, AllocError>
+    ensures { IfOk result (λ rows. All (IsEmptyRow empty) rows.items) }
+{
+    let count = selection_count(table) / SELECTIONS_IN_ROW;
+    let mut rows = Vec::with_capacity(alloc, count)?;
+    for _ in 0..count {
+        let row = row_of(alloc, 0, empty)?;
+        rows.push(row)?;
+    }
+    Ok(rows)
 }

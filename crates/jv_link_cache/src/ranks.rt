@@ -143,17 +143,23 @@ pub(crate) fn span_of(table: &ClassTable<'_>, ranks: &Ranks, class: usize) -> Op
     Some(span)
 }
 
-/// The span of each class.
+/// The span of each class, where they are asked for.
 pub(crate) fn spans_of(
     alloc: Global,
     table: &ClassTable<'_>,
     ranks: &Ranks,
+    asked: bool,
 ) -> Result<Vec<Option<Span>>, AllocError>
     ensures { IfOk result (λ spans. AreSpans table.now ranks.now.ranks.items (length table.now) spans.items) }
 {
     let mut spans = Vec::with_capacity(alloc, table.count())?;
     for class in 0..table.count() {
-        spans.push(span_of(table, ranks, class))?;
+        let span = if asked {
+            span_of(table, ranks, class)
+        } else {
+            None
+        };
+        spans.push(span)?;
     }
     Ok(spans)
 }

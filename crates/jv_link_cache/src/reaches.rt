@@ -105,6 +105,11 @@ fn reaches_of(
     Ok(Some(reaches))
 }
 
+/// Whether a method has so many handlers that it gets a table.
+pub(crate) fn are_many(handlers: ExceptionTable<'_>) -> bool {
+    handlers.len() > FEW
+}
+
 /// Which handler of a method takes an object first, where there are spans, and more than a few handlers.
 pub(crate) fn firsts_of_handlers(
     alloc: Global,
@@ -116,7 +121,7 @@ pub(crate) fn firsts_of_handlers(
         → AreCaught world pool (handlers_of handlers.entry) caught.now
         → IfOk result (λ found. IfSome found (λ firsts. AreFirstsOf world ranks pool (handlers_of handlers.entry) firsts.value)) }
 {
-    if handlers.len() <= FEW {
+    if !are_many(handlers) {
         return Ok(None);
     }
     let Some(reaches) = reaches_of(alloc, spans, caught, handlers)? else {

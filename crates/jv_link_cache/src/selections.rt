@@ -1,17 +1,15 @@
 //! Which methods calls run (JVMS 6.5), once they were asked.
 
-ghost use Rattle.std.specs.Prelude.{◌≡◌, ◌<◌, true, IfOk, IfSome, length};
-ghost use Rattle.std.specs.List.{All};
-ghost use Rattle.jv_meaning_world.specs.World.{World};
-ghost use Rattle.jv_link.specs.declared.site.Use.{Use as UseByNumber};
+ghost use Rattle.std.specs.Prelude.{◌≡◌, true, IfOk};
 ghost use Rattle.jv_link.specs.Seen.{IsSite, IsMethodTarget};
 ghost use Rattle.jv_link.specs.Objects.{IsObject};
 ghost use Rattle.jv_link.specs.Answers.{IsSelected};
-ghost use Rattle.jv_link_cache.specs.Inside.Selections.{Knows, Keeps, IsFor, IsFound, IsEntry};
+ghost use Rattle.jv_link_cache.specs.Inside.Selections.{Knows, Keeps, IsFor, AreSelections};
 
+use crate::places::SELECTIONS_IN_ROW;
+use crate::rows::{Row, entry_in, keep};
 use jv_link::{LinkError, MethodTarget, Site, Use, select};
 use jv_loader::{Classes, Place};
-use std::alloc::{AllocError, Global};
 
 /// A call of a target on an object, by the number of its class, `None` for an array, and the method that it runs. Where an
 /// instruction asks it, the number of the current class; else any.
@@ -51,40 +49,9 @@ fn is_same_object(one: Option<usize>, other: Option<usize>) -> bool
     }
 }
 
-/// What a call runs, where that is known.
+/// The number of the entry of a call, of so many: first by the class that declares the method and that of the object, then by the method.
 #[inline(always)]
-fn known(
-    entries: &[Option<Selection>],
-    at: usize,
-    class: usize,
-    target: &MethodTarget,
-    object: Option<usize>,
-) -> Option<Result<MethodTarget, LinkError>>
-    ensures { Knows entries.now class target.now object result }
-{
-    if at < entries.len()
-        && let Some(entry) = &entries[at]
-        && entry.class == class
-        && is_same_object(entry.object, object)
-        && is_same_target(&entry.target, target)
-    {
-        return Some(entry.found);
-    }
-    None
-}
-
-/// Keeps what a call runs.
-fn keep(entries: &mut [Option<Selection>], at: usize, entry: Selection)
-    ensures { Keeps entries.old entry entries.new }
-{
-    if at < entries.len() {
-        entries[at] = Some(entry);
-    }
-}
-
-/// Where the entry of a call stands, if it is there.
-#[inline(always)]
-fn place_in(count: usize, target: &MethodTarget, object: Option<usize>) -> usize {
+fn number_of(count: usize, target: &MethodTarget, object: Option<usize>) -> usize {
     let object = match object {
         Some(class) => class,
         None => 0,
@@ -97,12 +64,57 @@ fn place_in(count: usize, target: &MethodTarget, object: Option<usize>) -> usize
         & count.wrapping_sub(1)
 }
 
-/// What a call at a site runs; the entry at a place keeps it.
+/// The same, among rows.
+#[inline(always)]
+fn number_in(
+    rows: &[Row<Option<Selection>>],
+    target: &MethodTarget,
+    object: Option<usize>,
+) -> usize {
+    number_of(rows.len().wrapping_mul(SELECTIONS_IN_ROW), target, object)
+}
+
+/// What a call runs, where that is known.
+#[inline(always)]
+fn known(
+    rows: &[Row<Option<Selection>>],
+    class: usize,
+    target: &MethodTarget,
+    object: Option<usize>,
+) -> Option<Result<MethodTarget, LinkError>>
+    ensures { Knows rows.now class target.now object result }
+{
+    let number = number_in(rows, target, object);
+    if let Some(entry) = entry_in(rows, number / SELECTIONS_IN_ROW, number % SELECTIONS_IN_ROW)
+        && let Some(entry) = entry
+        && entry.class == class
+        && is_same_object(entry.object, object)
+        && is_same_target(&entry.target, target)
+    {
+        return Some(entry.found);
+    }
+    None
+}
+
+/// Keeps what a call runs.
+fn keep_selection(rows: &mut [Row<Option<Selection>>], entry: Selection)
+    ensures { Keeps rows.old entry rows.new }
+{
+    let number = number_in(rows, &entry.target, entry.object);
+    keep(
+        rows,
+        number / SELECTIONS_IN_ROW,
+        number % SELECTIONS_IN_ROW,
+        None,
+        Some(entry),
+    );
+}
+
+/// What a call at a site runs; its entry keeps it.
 #[cold]
 #[inline(never)]
 fn selected_and_kept(
-    entries: &mut [Option<Selection>],
-    at: usize,
+    rows: &mut [Row<Option<Selection>>],
     classes: &Classes<'_>,
     class: usize,
     site: Site,
@@ -110,19 +122,18 @@ fn selected_and_kept(
     target: &MethodTarget,
     object: Option<usize>,
 ) -> Result<MethodTarget, LinkError>
-    requires entries { All (IsEntry classes.now.world how) entries.old }
+    requires rows { AreSelections classes.now.world how rows.old }
     requires class { IsFor how class site }
     requires site { IsSite classes.now.world site }
     requires target { IsMethodTarget classes.now.world target.now }
     requires object { IsObject classes.now.world object }
     ensures found { IsSelected classes.now.world site how target.now object result }
     ensures target { IfOk result (IsMethodTarget classes.now.world) }
-    ensures entries { All (IsEntry classes.now.world how) entries.new }
+    ensures rows { AreSelections classes.now.world how rows.new }
 {
     let found = select(classes, site, how, target, object);
-    keep(
-        entries,
-        at,
+    keep_selection(
+        rows,
         Selection {
             class,
             target: *target,
@@ -136,8 +147,7 @@ fn selected_and_kept(
 /// The same, with room of its own for the answer, which is then not made where an entry is there.
 #[inline(always)]
 fn selected_apart(
-    entries: &mut [Option<Selection>],
-    at: usize,
+    rows: &mut [Row<Option<Selection>>],
     classes: &Classes<'_>,
     class: usize,
     site: Site,
@@ -145,23 +155,23 @@ fn selected_apart(
     target: &MethodTarget,
     object: Option<usize>,
 ) -> Result<MethodTarget, LinkError>
-    requires entries { All (IsEntry classes.now.world how) entries.old }
+    requires rows { AreSelections classes.now.world how rows.old }
     requires class { IsFor how class site }
     requires site { IsSite classes.now.world site }
     requires target { IsMethodTarget classes.now.world target.now }
     requires object { IsObject classes.now.world object }
     ensures found { IsSelected classes.now.world site how target.now object result }
     ensures target { IfOk result (IsMethodTarget classes.now.world) }
-    ensures entries { All (IsEntry classes.now.world how) entries.new }
+    ensures rows { AreSelections classes.now.world how rows.new }
 {
     let own = *target;
-    selected_and_kept(entries, at, classes, class, site, how, &own, object)
+    selected_and_kept(rows, classes, class, site, how, &own, object)
 }
 
 /// What a call at a site runs, by its entry, where that is there.
 #[inline(always)]
 pub(crate) fn selection_by(
-    entries: &mut [Option<Selection>],
+    rows: &mut [Row<Option<Selection>>],
     classes: &Classes<'_>,
     class: usize,
     site: Site,
@@ -169,32 +179,17 @@ pub(crate) fn selection_by(
     target: &MethodTarget,
     object: Option<usize>,
 ) -> Result<MethodTarget, LinkError>
-    requires entries { All (IsEntry classes.now.world how) entries.old }
+    requires rows { AreSelections classes.now.world how rows.old }
     requires class { IsFor how class site }
     requires site { IsSite classes.now.world site }
     requires target { IsMethodTarget classes.now.world target.now }
     requires object { IsObject classes.now.world object }
     ensures found { IsSelected classes.now.world site how target.now object result }
     ensures target { IfOk result (IsMethodTarget classes.now.world) }
-    ensures entries { All (IsEntry classes.now.world how) entries.new }
+    ensures rows { AreSelections classes.now.world how rows.new }
 {
-    let at = place_in(entries.len(), target, object);
-    if let Some(found) = known(entries, at, class, target, object) {
+    if let Some(found) = known(rows, class, target, object) {
         return found;
     }
-    selected_apart(entries, at, classes, class, site, how, target, object)
-}
-
-/// So many entries, all of them empty.
-pub(crate) fn empty_selections(
-    alloc: Global,
-    count: usize,
-) -> Result<Vec<Option<Selection>>, AllocError>
-    ensures { (world : World) (how : UseByNumber) → IfOk result (λ entries. All (IsEntry world how) entries.items) }
-{
-    let mut entries = Vec::with_capacity(alloc, count)?;
-    for _ in 0..count {
-        entries.push(None)?;
-    }
-    Ok(entries)
+    selected_apart(rows, classes, class, site, how, target, object)
 }

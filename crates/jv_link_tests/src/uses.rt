@@ -10,7 +10,7 @@ use crate::guest::{Table, wrong_row};
 use crate::row::Row;
 use crate::site::{field_index, method_index, site_of, use_of};
 use jv_link::{LinkError, Site, Use};
-use jv_link_cache::{Body, FieldKind, FieldUse, Linked, MethodUse};
+use jv_link_cache::{Body, FieldKind, FieldUse, Linked, MethodUse, body_at};
 use jv_loader::Classes;
 use std::hash::RandomState;
 
@@ -139,7 +139,7 @@ fn is_body(body: &Body<'_>, words: usize, receiver: Option<&str>) -> bool {
 }
 
 /// Whether a method is called as a row says.
-fn is_method_use(linked: &Linked<'_>, found: Result<MethodUse, LinkError>, answer: &str) -> bool {
+fn is_method_use(classes: &Classes<'_>, found: Result<MethodUse, LinkError>, answer: &str) -> bool {
     let mut words = answer.split_whitespace();
     let Ok(called) = found else {
         return false;
@@ -148,7 +148,7 @@ fn is_method_use(linked: &Linked<'_>, found: Result<MethodUse, LinkError>, answe
         return false;
     }
     let receiver = words.next();
-    match linked.body_at(called.target.declared) {
+    match body_at(classes.table(), called.target.declared) {
         Some(body) => {
             is_body(&body, called.argument_words, receiver) && is_word(words.next(), "code")
         }
@@ -172,7 +172,7 @@ fn uses_method(
 {
     let first = linked.method_use(classes, site, how, index);
     let again = linked.method_use(classes, site, how, index);
-    is_method_use(linked, first, row.answer) && is_method_use(linked, again, row.answer)
+    is_method_use(classes, first, row.answer) && is_method_use(classes, again, row.answer)
 }
 
 /// Whether a method is called as a row says.

@@ -5,7 +5,6 @@ use Rattle.jv_link.specs.declared.error.LinkError.{LinkError}
 use Rattle.jv_link.specs.Answers.{IsConstantsClass}
 use Rattle.jv_link_cache.specs.declared.class_use.ClassUse.{ClassUse}
 use Rattle.jv_link_cache.specs.ClassUses.{IsClassUse, used_ref}
-use Rattle.jv_link_cache.specs.declared.classes.ClassEntry.{ClassEntry}
 
 -- it is what the constant of a class at an index resolves to
 pub record IsFound (world : World) (class : ℕ) (index : ℕ) (answer : Result ClassUse LinkError) : Type 0 where
@@ -13,6 +12,6 @@ pub record IsFound (world : World) (class : ℕ) (index : ℕ) (answer : Result 
   pub used : IfOk answer (IsClassUse world)
 
 -- an entry is empty or right
-abbrev pub IsEntry : World → Option ClassEntry → Type 0
-IsEntry world None = ⊤
-IsEntry world (Some entry) = IsFound world entry.class entry.index entry.found
+abbrev pub IsEntry : World → ℕ → ℕ → Option (Result ClassUse LinkError) → Type 0
+IsEntry world class index None = ⊤
+IsEntry world class index (Some found) = IsFound world class index found

@@ -1,5 +1,5 @@
 -- What Fieldref constants resolve to, as entries keep it (JVMS 5.4.3.2).
-use Rattle.std.specs.Prelude.{◌≡◌, ℕ, true, Result, Ok, IfOk}
+use Rattle.std.specs.Prelude.{◌≡◌, ℕ, ⊤, true, Option, Some, None, Result, Ok, IfOk}
 use Rattle.jv_class.specs.Class.{Field}
 use Rattle.jv_meaning_world.specs.World.{World}
 use Rattle.jv_meaning_world.specs.LookUps.{DeclaredField}
@@ -11,16 +11,16 @@ use Rattle.jv_link.specs.Seen.{seen_use}
 use Rattle.jv_link.specs.Answers.{IsConstantsField}
 use Rattle.jv_link_cache.specs.declared.field_use.FieldUse.{FieldUse}
 use Rattle.jv_link_cache.specs.FieldUses.{IsFieldUse, used_place}
-use Rattle.jv_link_cache.specs.declared.fields.FieldEntry.{FieldEntry}
 
 -- it is what the constant of a class at an index resolves to
 pub record IsFound (world : World) (class : ℕ) (index : ℕ) (answer : Result FieldUse LinkError) : Type 0 where
   pub found : IsConstantsField world class index (used_place answer)
   pub used : IfOk answer (IsFieldUse world)
 
--- an entry is right, an empty one too, since no Fieldref constant has its index
-pub record IsEntry (world : World) (entry : FieldEntry) : Type 0 where
-  pub right : IsFound world entry.class entry.index entry.found
+-- an entry is empty or right
+abbrev pub IsEntry : World → ℕ → ℕ → Option (Result FieldUse LinkError) → Type 0
+IsEntry world class index None = ⊤
+IsEntry world class index (Some found) = IsFound world class index found
 
 -- a field of the instruction's kind, which it can set in every method or only reads (6.5)
 pub record IsUsedAtOnce (world : World) (class : ℕ) (index : ℕ) (how : Use) (used : FieldUse) : Type 0 where

@@ -1,5 +1,5 @@
 -- The handlers of methods, of each class, with what is known of them.
-use Rattle.std.specs.Prelude.{◌≡◌, ℕ, List, [], Option, Some, None, IfSome, slice_get, length}
+use Rattle.std.specs.Prelude.{◌≡◌, ℕ, List, Some, IfSome, slice_get, length}
 use Rattle.jv_format.specs.declared.handlers.Handler.{Handler}
 use Rattle.jv_pool.specs.Constants.{Entry}
 use Rattle.jv_class.specs.Class.{Method}

@@ -5,7 +5,6 @@ use Rattle.jv_link.specs.declared.error.LinkError.{LinkError}
 use Rattle.jv_link.specs.Answers.{IsConstantsMethod}
 use Rattle.jv_link_cache.specs.declared.method_use.MethodUse.{MethodUse}
 use Rattle.jv_link_cache.specs.MethodUses.{IsMethodUse, used_target}
-use Rattle.jv_link_cache.specs.declared.methods.MethodEntry.{MethodEntry}
 
 -- it is what the constant of a class at an index resolves to
 pub record IsFound (world : World) (class : ℕ) (index : ℕ) (answer : Result MethodUse LinkError) : Type 0 where
@@ -13,6 +12,6 @@ pub record IsFound (world : World) (class : ℕ) (index : ℕ) (answer : Result 
   pub called : IfOk answer (IsMethodUse world)
 
 -- an entry is empty or right
-abbrev pub IsEntry : World → Option MethodEntry → Type 0
-IsEntry world None = ⊤
-IsEntry world (Some entry) = IsFound world entry.class entry.index entry.found
+abbrev pub IsEntry : World → ℕ → ℕ → Option (Result MethodUse LinkError) → Type 0
+IsEntry world class index None = ⊤
+IsEntry world class index (Some found) = IsFound world class index found

@@ -1,6 +1,6 @@
 -- Ranks of classes, by which a class and those below it are found.
 use Rattle.std.specs.Prelude.{◌≡◌, ℕ, ◌<◌, Bool, ◌&&◌, List, Option, IfSome, length, get_or, nat_le, nat_lt}
-use Rattle.jv_meaning_world.specs.World.{Loaded, World}
+use Rattle.jv_meaning_world.specs.World.{World}
 use Rattle.jv_meaning_world.specs.Numbers.{HoldsAtBoth, IsNumbered}
 use Rattle.jv_link_cache.specs.declared.ranks.Span.{Span}
 use Rattle.jv_link_cache.specs.Handlers.{is_of}

@@ -17,7 +17,7 @@ loop-member-preserved c =
           let count = ap (λ (m : Loaded). length m.class.methods) (c.class_at-loaded.ensures l at) in
           own_joins c.args.table.now methods c.loop-member.rows.items l c.args.class c.loop-member.member _ at
           (omega (arith, count, c.loop-member-test.true, c.method_count-member-end.ensures)) (c.loop-member.invariant.0 l at methods h) refl
-          (λ d here. c.body_at-body.ensures c.args.table.now d c.requires.linked here) c.code_in.ensures,
+          (λ d here. c.body_at-body.ensures d here) c.code_in.ensures,
       length-append c.loop-member.rows.items _ ∙ (let many = c.loop-member.invariant.1 in omega (arith, many)),
     )
 

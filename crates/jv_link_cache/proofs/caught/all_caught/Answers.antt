@@ -1,4 +1,4 @@
-use Rattle.std.proofs.Common.{◌≡◌, ◌+◌, Some, List, sym, subst, ◌∙◌, ap}
+use Rattle.std.proofs.Common.{◌+◌, List, sym, subst, ◌∙◌}
 use Rattle.jv_format.specs.Handlers.{handlers_of}
 use Rattle.jv_format.specs.declared.handlers.Handler.{Handler}
 use Rattle.jv_link_cache.specs.declared.caught.Caught.{Caught}

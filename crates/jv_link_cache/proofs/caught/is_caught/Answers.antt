@@ -1,4 +1,4 @@
-use Rattle.std.proofs.Common.{◌≡◌, subst, ap, ◌∙◌, slice_get}
+use Rattle.std.proofs.Common.{subst, ap, ◌∙◌, slice_get}
 use Rattle.jv_link_cache.specs.declared.caught.Caught.{Caught}
 use Rattle.jv_link_cache.specs.Inside.Caught.{IsCaught}
 use Rattle.jv_link_cache.proofs.CatchTypes.{any_catches, class_catches, nothing_catches}

@@ -1,7 +1,6 @@
 use Rattle.std.proofs.Common.{List, Option, ap, subst}
 use Rattle.std.proofs.lemmas.Result.{IfOk-weaker}
 use Rattle.jv_class_structure.specs.Parts.{CodeSeen}
-use Rattle.jv_format.specs.Handlers.{handlers_of}
 use Rattle.jv_format.specs.declared.handlers.Handler.{Handler}
 use Rattle.jv_link_cache.specs.Handlers.{handlers_of_code}
 use Rattle.jv_link_cache.specs.Inside.Handlers.{AreKnown}

@@ -1,6 +1,5 @@
 use Rattle.std.proofs.Common.{subst}
 use Rattle.jv_link_cache.specs.declared.caught.Caught.{Caught}
-use Rattle.jv_link_cache.specs.declared.ranks.Span.{Span}
 use Rattle.jv_link_cache.specs.Inside.Caught.{IsCaught}
 use Rattle.jv_link_cache.specs.Inside.Ranks.{IsSpan}
 use Rattle.jv_link_cache.proofs.Reaching.{any_span, class_span, nothing_span, weaker_some}
