@@ -6,6 +6,10 @@ public class BufferedReader extends CharReader {
     private final Reader in;
     private char[] line = new char[80];
     private int next = NONE;
+    /** What was read behind the mark, null without one, and how much of it is to be read again. */
+    private StringBuilder marked;
+    private int again;
+    private int limit;
 
     public BufferedReader(Reader in) {
         this.in = in;
@@ -17,12 +21,51 @@ public class BufferedReader extends CharReader {
 
     private int peek() throws IOException {
         if (next == NONE) {
-            next = in.read();
+            next = again > 0 ? marked.charAt(marked.length() - again) : in.read();
         }
         return next;
     }
 
+    private int readMarked() throws IOException {
+        int c = peek();
+        if (again > 0) {
+            again--;
+        } else if (marked.length() >= limit) {
+            marked = null;
+        } else if (c >= 0) {
+            marked.append((char) c);
+        }
+        next = c < 0 ? c : NONE;
+        return c;
+    }
+
+    public boolean markSupported() {
+        return true;
+    }
+
+    public void mark(int most) throws IOException {
+        if (most < 0) {
+            throw new IllegalArgumentException("Read-ahead limit < 0");
+        }
+        limit = Math.max(most, 8192);
+        marked = new StringBuilder(again == 0 ? "" : marked.substring(marked.length() - again));
+    }
+
+    public void reset() throws IOException {
+        if (marked == null) {
+            throw new IOException("Stream not marked");
+        }
+        if (next >= 0 && again == 0) {
+            marked.append((char) next);
+        }
+        next = NONE;
+        again = marked.length();
+    }
+
     public int read() throws IOException {
+        if (marked != null) {
+            return readMarked();
+        }
         int c = peek();
         if (c >= 0) {
             next = NONE;
@@ -52,7 +95,7 @@ public class BufferedReader extends CharReader {
             }
             chars[n] = (char) c;
             n++;
-            c = in.read();
+            c = marked == null ? in.read() : readMarked();
         }
         line = chars;
         if (c == '\r' && peek() == '\n') {

@@ -32,6 +32,10 @@ public class ByteArrayOutputStream extends OutputStream {
         }
     }
 
+    public void writeTo(OutputStream out) throws IOException {
+        out.write(bytes, 0, count);
+    }
+
     public void reset() {
         count = 0;
     }

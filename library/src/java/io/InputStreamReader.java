@@ -23,7 +23,7 @@ public class InputStreamReader extends CharReader {
 
     public InputStreamReader(InputStream in, Charset charset) {
         this.in = java.util.Objects.requireNonNull(in);
-        this.isHost = in == System.in;
+        this.isHost = in instanceof HostInput;
         this.charset = charset;
     }
 

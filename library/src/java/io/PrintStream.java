@@ -166,7 +166,12 @@ public class PrintStream extends OutputStream implements Appendable {
     }
 
     public PrintStream printf(String format, Object... values) {
-        put(String.format(format, values));
+        StringBuilder text = new StringBuilder();
+        try {
+            java.util.Formats.format(text, format, values);
+        } finally {
+            put(text.toString());
+        }
         return this;
     }
 

@@ -151,7 +151,12 @@ public class PrintWriter extends CharWriter {
     }
 
     public PrintWriter printf(String format, Object... values) {
-        put(String.format(format, values));
+        StringBuilder text = new StringBuilder();
+        try {
+            java.util.Formats.format(text, format, values);
+        } finally {
+            put(text.toString());
+        }
         return this;
     }
 

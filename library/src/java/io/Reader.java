@@ -34,5 +34,13 @@ public abstract class Reader implements Readable, Closeable {
         return false;
     }
 
+    public void mark(int most) throws IOException {
+        throw new IOException("mark() not supported");
+    }
+
+    public void reset() throws IOException {
+        throw new IOException("reset() not supported");
+    }
+
     public abstract void close() throws IOException;
 }

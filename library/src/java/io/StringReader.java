@@ -3,6 +3,7 @@ package java.io;
 public class StringReader extends CharReader {
     private String text;
     private int at;
+    private int mark;
 
     public StringReader(String text) {
         this.text = java.util.Objects.requireNonNull(text);
@@ -17,6 +18,18 @@ public class StringReader extends CharReader {
         }
         at++;
         return text.charAt(at - 1);
+    }
+
+    public boolean markSupported() {
+        return true;
+    }
+
+    public void mark(int most) throws IOException {
+        mark = at;
+    }
+
+    public void reset() throws IOException {
+        at = mark;
     }
 
     public boolean ready() throws IOException {

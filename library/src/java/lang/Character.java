@@ -122,7 +122,15 @@ public final class Character implements java.io.Serializable, Comparable<Charact
     }
 
     public static int toUpperCase(int c) {
-        return toUpperCase((char) c);
+        return c > 0xffff ? c : toUpperCase((char) c);
+    }
+
+    public static char toTitleCase(char c) {
+        return toUpperCase(c);
+    }
+
+    public static int toTitleCase(int c) {
+        return toUpperCase(c);
     }
 
     public static char toLowerCase(char c) {
@@ -130,7 +138,7 @@ public final class Character implements java.io.Serializable, Comparable<Charact
     }
 
     public static int toLowerCase(int c) {
-        return toLowerCase((char) c);
+        return c > 0xffff ? c : toLowerCase((char) c);
     }
 
     public static int digit(char c, int radix) {

@@ -4,11 +4,24 @@ import java.io.InputStream;
 import java.io.PrintStream;
 
 public final class System {
-    public static final InputStream in = new java.io.HostInput();
-    public static final PrintStream out = new PrintStream(new java.io.HostOutput());
-    public static final PrintStream err = new PrintStream(null);
+    // No program sets them but by the methods below.
+    public static InputStream in = new java.io.HostInput();
+    public static PrintStream out = new PrintStream(new java.io.HostOutput());
+    public static PrintStream err = new PrintStream(null);
 
     private System() {
+    }
+
+    public static void setIn(InputStream stream) {
+        in = stream;
+    }
+
+    public static void setOut(PrintStream stream) {
+        out = stream;
+    }
+
+    public static void setErr(PrintStream stream) {
+        err = stream;
     }
 
     public static void arraycopy(Object from, int at, Object to, int toAt, int count) {

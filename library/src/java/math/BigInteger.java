@@ -91,19 +91,20 @@ public class BigInteger extends Number implements Comparable<BigInteger> {
         if (bits < 0) {
             throw new IllegalArgumentException("numBits must be non-negative");
         }
-        int[] all = new int[(bits + 31) / 32];
-        for (int k = 0; k < all.length; k++) {
-            all[k] = random.nextInt();
+        byte[] bytes = new byte[(int) ((bits + 7L) / 8)];
+        random.nextBytes(bytes);
+        if ((bits & 7) != 0) {
+            bytes[0] &= (1 << (bits & 7)) - 1;
         }
-        if ((bits & 31) != 0) {
-            all[all.length - 1] &= (1 << (bits & 31)) - 1;
-        }
-        return all;
+        return read(bytes, false);
     }
 
     private static int[] parse(String text, int from, int radix) {
         if (from == text.length()) {
             throw new NumberFormatException("Zero length BigInteger");
+        }
+        if (text.lastIndexOf('-') > 0 || text.lastIndexOf('+') > 0) {
+            throw new NumberFormatException("Illegal embedded sign character");
         }
         int[] all = new int[(int) ((text.length() - from) * (long) bitsFor(radix) / 32 + 1)];
         for (int i = from; i < text.length(); i++) {

@@ -16,6 +16,36 @@ public class BitSet implements Cloneable, java.io.Serializable {
         words = new long[bits + 63 >> 6];
     }
 
+    public static BitSet valueOf(long[] words) {
+        BitSet made = new BitSet(64 * words.length);
+        System.arraycopy(words, 0, made.words, 0, words.length);
+        made.used = words.length;
+        made.drop();
+        return made;
+    }
+
+    public static BitSet valueOf(byte[] bytes) {
+        BitSet made = new BitSet(8 * bytes.length);
+        for (int i = 0; i < bytes.length; i++) {
+            made.words[i >> 3] |= (bytes[i] & 255L) << 8 * (i & 7);
+        }
+        made.used = made.words.length;
+        made.drop();
+        return made;
+    }
+
+    public long[] toLongArray() {
+        return Arrays.copyOf(words, used);
+    }
+
+    public byte[] toByteArray() {
+        byte[] bytes = new byte[length() + 7 >> 3];
+        for (int i = 0; i < bytes.length; i++) {
+            bytes[i] = (byte) (words[i >> 3] >>> 8 * (i & 7));
+        }
+        return bytes;
+    }
+
     private static void check(int bit, String name) {
         if (bit < 0) {
             throw new IndexOutOfBoundsException(name + " < 0: " + bit);

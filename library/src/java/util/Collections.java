@@ -237,6 +237,22 @@ public class Collections {
         return Collections.<T>emptyList().iterator();
     }
 
+    public static <T> ListIterator<T> emptyListIterator() {
+        return Collections.<T>emptyList().listIterator();
+    }
+
+    public static <T> Enumeration<T> emptyEnumeration() {
+        return new Walk<T>(Collections.<T>emptyIterator());
+    }
+
+    public static <T> SortedSet<T> emptySortedSet() {
+        return unmodifiableSortedSet(new TreeSet<T>());
+    }
+
+    public static <K, V> SortedMap<K, V> emptySortedMap() {
+        return unmodifiableSortedMap(new TreeMap<K, V>());
+    }
+
     public static <T> List<T> singletonList(T t) {
         return new Copies<T>(1, t);
     }
@@ -292,6 +308,14 @@ public class Collections {
     }
 
     public static <K, V> Map<K, V> synchronizedMap(Map<K, V> map) {
+        return map;
+    }
+
+    public static <T> SortedSet<T> synchronizedSortedSet(SortedSet<T> set) {
+        return set;
+    }
+
+    public static <K, V> SortedMap<K, V> synchronizedSortedMap(SortedMap<K, V> map) {
         return map;
     }
 

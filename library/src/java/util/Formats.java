@@ -1,6 +1,9 @@
 package java.util;
 
-/** Texts by formats: d x X o s S c C b B h n %, with flags, an argument's number or `<`, a width, and for texts a precision. */
+/**
+ * Texts by formats: d x X o s S c C b B h H n %, with flags, an argument's number or `<`, a width, and for texts a precision.
+ * A format is judged before its values, so that nothing is written of a wrong one, and of wrong values what stands before them.
+ */
 public final class Formats {
     private final StringBuilder out;
     private final String format;
@@ -8,6 +11,7 @@ public final class Formats {
     private int at;
     private int ordinary;
     private int last = -1;
+    private boolean judges;
 
     private Formats(StringBuilder out, String format, Object[] values) {
         this.out = out;
@@ -16,8 +20,32 @@ public final class Formats {
     }
 
     public static StringBuilder format(StringBuilder out, String format, Object[] values) {
-        new Formats(out, format, values).all();
+        int before = out.length();
+        Formats f = new Formats(out, format, values);
+        boolean judged = false;
+        try {
+            f.all();
+            judged = true;
+        } finally {
+            // What went wrong may have been the format, here or further on.
+            if (!judged) {
+                f.judge(before);
+            }
+        }
         return out;
+    }
+
+    private void judge(int before) {
+        String done = out.substring(before);
+        out.setLength(before);
+        judges = true;
+        at = 0;
+        try {
+            all();
+        } finally {
+            out.setLength(before);
+        }
+        out.append(done);
     }
 
     private void all() {
@@ -74,18 +102,73 @@ public final class Formats {
         }
         char how = format.charAt(at);
         at++;
-        if (width < 0 && (flags.indexOf('-') >= 0 || flags.indexOf('0') >= 0)) {
-            throw new MissingFormatWidthException(format.substring(begin - 1, at));
+        if ("dxXosScCbBhHn%".indexOf(how) < 0 && "eEfgGaAtT".indexOf(how) < 0) {
+            throw new UnknownFormatConversionException(String.valueOf(how));
         }
+        check(how, flags, width, precision, format.substring(begin - 1, at));
         if (how == 'n') {
             out.append('\n');
         } else if (how == '%') {
             pad("%", flags, width);
-        } else if ("dxXosScCbBhH".indexOf(how) < 0 && "eEfgGaAtT".indexOf(how) < 0) {
-            throw new UnknownFormatConversionException(String.valueOf(how));
-        } else {
+        } else if (!judges) {
             Object value = value(place, flags, format.substring(begin - 1, at));
             pad(text(value, how, flags, width, precision), flags, width);
+        }
+    }
+
+    private static boolean has(String flags, char flag) {
+        return flags.indexOf(flag) >= 0;
+    }
+
+    private static void refuse(String refused, String flags, char how) {
+        for (int i = 0; i < refused.length(); i++) {
+            if (has(flags, refused.charAt(i))) {
+                throw new FormatFlagsConversionMismatchException(refused.substring(i, i + 1), Character.toLowerCase(how));
+            }
+        }
+    }
+
+    /** What is wrong with a specifier, whatever its value. */
+    private static void check(char how, String flags, int width, int precision, String specifier) {
+        boolean isNumber = "dxXo".indexOf(how) >= 0;
+        boolean isText = "sSbBhH".indexOf(how) >= 0;
+        if ("bBhH".indexOf(how) >= 0) {
+            refuse("#", flags, how);
+        }
+        if (how == '%' || how == 'n') {
+            String others = flags.replace(how == '%' ? "-" : "", "");
+            if (precision >= 0) {
+                throw new IllegalFormatPrecisionException(precision);
+            }
+            if (!others.isEmpty()) {
+                throw new IllegalFormatFlagsException(flags);
+            }
+        }
+        if (how == 'c' || how == 'C') {
+            if (precision >= 0) {
+                throw new IllegalFormatPrecisionException(precision);
+            }
+            refuse("#+ 0,(", flags, how);
+        }
+        if (width < 0 && how != 'n' && (has(flags, '-') || isNumber && has(flags, '0'))) {
+            throw new MissingFormatWidthException(specifier);
+        }
+        if (isText) {
+            refuse("+ 0,(", flags, how);
+        }
+        if (isNumber) {
+            boolean signs = has(flags, '+') && has(flags, ' ');
+            if (signs || has(flags, '-') && has(flags, '0')) {
+                StringBuilder all = new StringBuilder();
+                for (char c : (how == 'X' ? "-^#+ 0,(<" : "-#+ 0,(<").toCharArray()) {
+                    all.append(c == '^' || has(flags, c) ? String.valueOf(c) : "");
+                }
+                throw new IllegalFormatFlagsException(all.toString());
+            }
+            if (precision >= 0) {
+                throw new IllegalFormatPrecisionException(precision);
+            }
+            refuse(how == 'd' ? "#" : ",", flags, how);
         }
     }
 
@@ -140,12 +223,14 @@ public final class Formats {
             case 'H':
                 return cut(value == null ? "NULL" : Integer.toHexString(value.hashCode()).toUpperCase(), precision);
             case 's':
+                refuse("#", flags, how);
                 return cut(String.valueOf(value), precision);
             case 'S':
+                refuse("#", flags, how);
                 return cut(String.valueOf(value).toUpperCase(), precision);
             default:
                 if (value == null) {
-                    return "null";
+                    return cut("null", precision);
                 }
                 throw new IllegalFormatConversionException(how, value);
         }
@@ -171,6 +256,9 @@ public final class Formats {
         }
         if (how == 'd') {
             return signed(value.toString(), flags, width);
+        }
+        if (!(value instanceof java.math.BigInteger)) {
+            refuse("( +", flags, how);
         }
         int radix = how == 'o' ? 8 : 16;
         String front = flags.indexOf('#') < 0 ? "" : how == 'o' ? "0" : "0x";

@@ -6,6 +6,10 @@ public final class Locale implements Cloneable, java.io.Serializable {
     public static final Locale ENGLISH = new Locale("en", "");
     public static final Locale US = new Locale("en", "US");
     public static final Locale UK = new Locale("en", "GB");
+    public static final Locale FRANCE = new Locale("fr", "FR");
+    public static final Locale GERMANY = new Locale("de", "DE");
+
+    private static Locale standard = US;
 
     private final String language;
     private final String country;
@@ -20,7 +24,11 @@ public final class Locale implements Cloneable, java.io.Serializable {
     }
 
     public static Locale getDefault() {
-        return US;
+        return standard;
+    }
+
+    public static void setDefault(Locale locale) {
+        standard = Objects.requireNonNull(locale);
     }
 
     public String getLanguage() {

@@ -8,7 +8,7 @@ import java.io.StringReader;
 import java.util.regex.Matcher;
 import java.util.regex.Pattern;
 
-/** Reads tokens and lines, and no more of its input than it needs: but with a delimiter of one's own all of it, at once. */
+/** Reads tokens and lines, and no more of its input than it needs: but for a delimiter of one's own, and for what is sought, all of it. */
 public final class Scanner implements Iterator<String>, java.io.Closeable {
     private static final long NO_NUMBER = Long.MIN_VALUE;
 
@@ -20,6 +20,8 @@ public final class Scanner implements Iterator<String>, java.io.Closeable {
     private boolean ended;
     private boolean closed;
     private Pattern delimiter;
+    private int radix = 10;
+    private Matcher last;
     private int start;
     private int end;
 
@@ -100,12 +102,21 @@ public final class Scanner implements Iterator<String>, java.io.Closeable {
         return end > start;
     }
 
-    private boolean findBehindDelimiter() {
+    /** What is left of the input, at most so many chars. */
+    private String rest(int most) {
+        if (closed) {
+            throw new IllegalStateException("Scanner closed");
+        }
         int n = 0;
-        while (at(n) >= 0) {
+        while (n < most && at(n) >= 0) {
             n++;
         }
-        String rest = String.of(chars, from, to);
+        return String.of(chars, from, from + n);
+    }
+
+    private boolean findBehindDelimiter() {
+        String rest = rest(Integer.MAX_VALUE);
+        int n = rest.length();
         Matcher front = delimiter.matcher(rest);
         start = front.lookingAt() ? front.end() : 0;
         if (start == n) {
@@ -156,27 +167,85 @@ public final class Scanner implements Iterator<String>, java.io.Closeable {
     }
 
     public boolean hasNext(String pattern) {
-        return find() && found().matches(pattern);
+        return hasNext(Pattern.compile(pattern));
     }
 
     public String next(String pattern) {
-        String t = token();
-        if (!t.matches(pattern)) {
-            throw new InputMismatchException();
-        }
-        return taken(t);
+        return next(Pattern.compile(pattern));
     }
 
     public boolean hasNext(Pattern pattern) {
-        return find() && pattern.matcher(found()).matches();
+        if (!find()) {
+            return false;
+        }
+        last = pattern.matcher(found());
+        return last.matches();
     }
 
     public String next(Pattern pattern) {
         String t = token();
-        if (!pattern.matcher(t).matches()) {
+        if (!hasNext(pattern)) {
             throw new InputMismatchException();
         }
         return taken(t);
+    }
+
+    public Pattern delimiter() {
+        return delimiter == null ? Pattern.compile("\\p{javaWhitespace}+") : delimiter;
+    }
+
+    // ---- what is sought, whatever the delimiter
+
+    private String sought(Pattern pattern, String within, boolean here) {
+        last = pattern.matcher(within);
+        if (here ? last.lookingAt() : last.find()) {
+            from += last.end();
+            return last.group();
+        }
+        return null;
+    }
+
+    public String findInLine(Pattern pattern) {
+        int n = 0;
+        rest(0);
+        while (at(n) >= 0 && !endsLine(at(n))) {
+            n++;
+        }
+        return sought(pattern, rest(n), false);
+    }
+
+    public String findInLine(String pattern) {
+        return findInLine(Pattern.compile(pattern));
+    }
+
+    public String findWithinHorizon(Pattern pattern, int horizon) {
+        if (horizon < 0) {
+            throw new IllegalArgumentException("horizon < 0");
+        }
+        return sought(pattern, rest(horizon == 0 ? Integer.MAX_VALUE : horizon), false);
+    }
+
+    public String findWithinHorizon(String pattern, int horizon) {
+        return findWithinHorizon(Pattern.compile(pattern), horizon);
+    }
+
+    public Scanner skip(Pattern pattern) {
+        if (sought(pattern, rest(Integer.MAX_VALUE), true) == null) {
+            throw new NoSuchElementException();
+        }
+        return this;
+    }
+
+    public Scanner skip(String pattern) {
+        return skip(Pattern.compile(pattern));
+    }
+
+    /** Of what was sought, or asked for by a pattern. */
+    public java.util.regex.MatchResult match() {
+        if (last == null) {
+            throw new IllegalStateException("No match result available");
+        }
+        return last.toMatchResult();
     }
 
     // ---- numbers
@@ -229,29 +298,41 @@ public final class Scanner implements Iterator<String>, java.io.Closeable {
         return negative ? -sum : sum;
     }
 
-    private boolean hasNumber(long least, long most) {
+    public Scanner useRadix(int radix) {
+        if (radix < Character.MIN_RADIX || radix > Character.MAX_RADIX) {
+            throw new IllegalArgumentException("radix:" + radix);
+        }
+        this.radix = radix;
+        return this;
+    }
+
+    public int radix() {
+        return radix;
+    }
+
+    private boolean hasNumber(long least, long most, int radix) {
         if (!find()) {
             return false;
         }
-        long l = end > start ? simple() : NO_NUMBER;
-        return l != NO_NUMBER ? l >= least && l <= most : isNumber(found(), least, most);
+        long l = end > start && radix == 10 ? simple() : NO_NUMBER;
+        return l != NO_NUMBER ? l >= least && l <= most : isNumber(found(), least, most, radix);
     }
 
-    private static boolean isNumber(String t, long least, long most) {
-        String d = digits(t, 10);
+    private static boolean isNumber(String t, long least, long most, int radix) {
+        String d = digits(t, radix);
         if (d == null) {
             return false;
         }
         try {
-            long l = Long.parseLong(d);
+            long l = Long.parseLong(d, radix);
             return l >= least && l <= most;
         } catch (NumberFormatException e) {
             return false;
         }
     }
 
-    private long number(long least, long most) {
-        if (find() && end > start) {
+    private long number(long least, long most, int radix) {
+        if (radix == 10 && find() && end > start) {
             long l = simple();
             if (l != NO_NUMBER && l >= least && l <= most) {
                 from += end;
@@ -259,77 +340,95 @@ public final class Scanner implements Iterator<String>, java.io.Closeable {
             }
         }
         String t = token();
-        String d = digits(t, 10);
+        String d = digits(t, radix);
         if (d == null) {
             throw new InputMismatchException();
         }
-        if (!isNumber(t, least, most)) {
-            boolean isInt = most < Integer.MAX_VALUE && isNumber(t, Integer.MIN_VALUE, Integer.MAX_VALUE);
-            throw new InputMismatchException(isInt ? "Value out of range. Value:\"" + d + "\" Radix:10" : "For input string: \"" + d + "\"");
+        if (!isNumber(t, least, most, radix)) {
+            boolean isInt = most < Integer.MAX_VALUE && isNumber(t, Integer.MIN_VALUE, Integer.MAX_VALUE, radix);
+            throw new InputMismatchException(isInt ? "Value out of range. Value:\"" + d + "\" Radix:" + radix
+                : "For input string: \"" + d + "\"" + (radix == 10 ? "" : " under radix " + radix));
         }
         taken(t);
-        return Long.parseLong(d);
+        return Long.parseLong(d, radix);
     }
 
     public boolean hasNextInt() {
-        return hasNumber(Integer.MIN_VALUE, Integer.MAX_VALUE);
+        return hasNextInt(radix);
+    }
+
+    public boolean hasNextInt(int radix) {
+        return hasNumber(Integer.MIN_VALUE, Integer.MAX_VALUE, radix);
     }
 
     public boolean hasNextLong() {
-        return hasNumber(Long.MIN_VALUE, Long.MAX_VALUE);
+        return hasNextLong(radix);
+    }
+
+    public boolean hasNextLong(int radix) {
+        return hasNumber(Long.MIN_VALUE, Long.MAX_VALUE, radix);
     }
 
     public boolean hasNextShort() {
-        return hasNumber(Short.MIN_VALUE, Short.MAX_VALUE);
+        return hasNextShort(radix);
+    }
+
+    public boolean hasNextShort(int radix) {
+        return hasNumber(Short.MIN_VALUE, Short.MAX_VALUE, radix);
     }
 
     public boolean hasNextByte() {
-        return hasNumber(Byte.MIN_VALUE, Byte.MAX_VALUE);
+        return hasNextByte(radix);
+    }
+
+    public boolean hasNextByte(int radix) {
+        return hasNumber(Byte.MIN_VALUE, Byte.MAX_VALUE, radix);
     }
 
     public int nextInt() {
-        return (int) number(Integer.MIN_VALUE, Integer.MAX_VALUE);
-    }
-
-    public long nextLong() {
-        return number(Long.MIN_VALUE, Long.MAX_VALUE);
-    }
-
-    public short nextShort() {
-        return (short) number(Short.MIN_VALUE, Short.MAX_VALUE);
-    }
-
-    public byte nextByte() {
-        return (byte) number(Byte.MIN_VALUE, Byte.MAX_VALUE);
+        return nextInt(radix);
     }
 
     public int nextInt(int radix) {
+        return (int) number(Integer.MIN_VALUE, Integer.MAX_VALUE, radix);
+    }
+
+    public long nextLong() {
+        return nextLong(radix);
+    }
+
+    public long nextLong(int radix) {
+        return number(Long.MIN_VALUE, Long.MAX_VALUE, radix);
+    }
+
+    public short nextShort() {
+        return nextShort(radix);
+    }
+
+    public short nextShort(int radix) {
+        return (short) number(Short.MIN_VALUE, Short.MAX_VALUE, radix);
+    }
+
+    public byte nextByte() {
+        return nextByte(radix);
+    }
+
+    public byte nextByte(int radix) {
+        return (byte) number(Byte.MIN_VALUE, Byte.MAX_VALUE, radix);
+    }
+
+    public boolean hasNextBigInteger() {
+        return find() && digits(found(), radix) != null;
+    }
+
+    public java.math.BigInteger nextBigInteger() {
         String t = token();
         String d = digits(t, radix);
         if (d == null) {
             throw new InputMismatchException();
         }
-        int i;
-        try {
-            i = Integer.parseInt(d, radix);
-        } catch (NumberFormatException e) {
-            throw new InputMismatchException(e.getMessage());
-        }
         taken(t);
-        return i;
-    }
-
-    public boolean hasNextBigInteger() {
-        return find() && digits(found(), 10) != null;
-    }
-
-    public java.math.BigInteger nextBigInteger() {
-        String t = token();
-        String d = digits(t, 10);
-        if (d == null) {
-            throw new InputMismatchException();
-        }
-        return new java.math.BigInteger(digits(taken(t), 10));
+        return new java.math.BigInteger(d, radix);
     }
 
     public boolean hasNextBoolean() {

@@ -1,63 +1,84 @@
 package java.util.regex;
 
 public final class Matcher implements MatchResult {
-    private final Pattern pattern;
+    private Pattern pattern;
     private String text;
+    /** The part of the text that is looked at. */
+    private int from;
+    private int to;
     private int[] places;
     private int next;
+    /** Where the last match ended. */
+    private int last;
     private int appended;
 
     Matcher(Pattern pattern, String text) {
         this.pattern = pattern;
         this.text = text;
+        this.to = text.length();
     }
 
-    private boolean at(int from, boolean whole) {
+    private boolean at(int start, boolean whole) {
+        return tried(new Pattern.Run(text, from, to, last, whole, noPlaces()), start);
+    }
+
+    private int[] noPlaces() {
         int[] found = new int[2 * pattern.groups + 2];
         for (int i = 1; i < found.length; i++) {
             found[i] = -1;
         }
-        found[0] = from;
-        places = pattern.match(new Pattern.Run(text, whole, found), from) ? found : null;
+        return found;
+    }
+
+    private boolean tried(Pattern.Run run, int start) {
+        int[] found = run.places;
+        found[0] = start;
+        places = pattern.match(run, start) ? found : null;
         if (places != null) {
-            next = places[1] == from ? from + 1 : places[1];
+            last = found[1];
+            next = last == start ? start + 1 : last;
+            return true;
         }
-        return places != null;
+        for (int i = 1; i < found.length; i++) {
+            found[i] = -1;
+        }
+        return false;
     }
 
     public boolean matches() {
-        return at(0, true);
+        return at(from, true);
     }
 
     public boolean lookingAt() {
-        return at(0, false);
+        return at(from, false);
     }
 
     public boolean find() {
-        for (int i = next; i <= text.length(); i++) {
-            if (at(i, false)) {
-                return true;
+        if (next <= to) {
+            Pattern.Run run = new Pattern.Run(text, from, to, last, false, noPlaces());
+            for (int i = next; i <= to; i++) {
+                if (tried(run, i)) {
+                    return true;
+                }
             }
         }
-        next = text.length() + 1;
+        next = to + 1;
         places = null;
         return false;
     }
 
-    public boolean find(int from) {
-        if (from < 0 || from > text.length()) {
+    public boolean find(int start) {
+        if (start < 0 || start > text.length()) {
             throw new IndexOutOfBoundsException("Illegal start index");
         }
         reset();
-        next = from;
+        next = start;
+        last = start;
         return find();
     }
 
     public Matcher reset() {
-        next = 0;
-        appended = 0;
-        places = null;
-        return this;
+        return region(0, text.length());
     }
 
     public Matcher reset(CharSequence text) {
@@ -65,12 +86,48 @@ public final class Matcher implements MatchResult {
         return reset();
     }
 
+    public Matcher region(int from, int to) {
+        if (from < 0 || from > text.length()) {
+            throw new IndexOutOfBoundsException("start");
+        }
+        if (to < 0 || to > text.length()) {
+            throw new IndexOutOfBoundsException("end");
+        }
+        if (from > to) {
+            throw new IndexOutOfBoundsException("start > end");
+        }
+        this.from = from;
+        this.to = to;
+        next = from;
+        last = from;
+        appended = 0;
+        places = null;
+        return this;
+    }
+
+    public int regionStart() {
+        return from;
+    }
+
+    public int regionEnd() {
+        return to;
+    }
+
+    public Matcher usePattern(Pattern pattern) {
+        if (pattern == null) {
+            throw new IllegalArgumentException("Pattern cannot be null");
+        }
+        this.pattern = pattern;
+        places = null;
+        return this;
+    }
+
     public Pattern pattern() {
         return pattern;
     }
 
     public boolean hitEnd() {
-        return next >= text.length();
+        return next >= to;
     }
 
     // ---- where it matched

@@ -6,23 +6,29 @@ import java.util.List;
 import java.util.Map;
 
 /**
- * Regular expressions: alternatives, groups, also with names, classes, lookahead, back references, ^ $ \b \B, repetitions of each kind,
- * \Q..\E, and the flags CASE_INSENSITIVE, for ASCII, MULTILINE and DOTALL. Matched by going back. What a pattern has beyond that is a
- * PatternSyntaxException.
+ * Regular expressions: alternatives, groups, also with names, classes, what stands ahead or behind, back references, ^ $ \b \B \G,
+ * repetitions of each kind, \Q..\E, and flags, also within: of letters those of ASCII, with UNICODE_CASE those of Latin-1. Matched by
+ * going back. What a pattern has beyond that is a PatternSyntaxException.
  */
 public final class Pattern implements java.io.Serializable {
     public static final int CASE_INSENSITIVE = 2;
+    public static final int COMMENTS = 4;
     public static final int MULTILINE = 8;
+    public static final int LITERAL = 16;
     public static final int DOTALL = 32;
+    public static final int UNICODE_CASE = 64;
 
-    private static final int KNOWN_FLAGS = CASE_INSENSITIVE | MULTILINE | DOTALL;
+    private static final int KNOWN_FLAGS = 126;
+    /** The letters of the flags, each at the number of its bit. */
+    private static final String LETTERS = "?ixm?su";
+    private static final int ENDLESS = Integer.MAX_VALUE;
 
     /** The last ones that the methods of java.lang.String asked for: no memory comes back. */
     private static final Pattern[] KEPT = new Pattern[8];
     private static int nextKept;
 
     private final String pattern;
-    private final int flags;
+    private int flags;
     private final Node root;
     private int at;
     int groups;
@@ -32,7 +38,10 @@ public final class Pattern implements java.io.Serializable {
     private Pattern(String pattern, int flags) {
         this.pattern = pattern;
         this.flags = flags;
-        Part all = alternatives();
+        Part all = (flags & LITERAL) == 0 ? alternatives() : new Part(new Node(Node.JOIN), 0);
+        while ((flags & LITERAL) != 0 && at < pattern.length()) {
+            append(all, new Part(of(taken("")), 1));
+        }
         if (at < pattern.length()) {
             throw new PatternSyntaxException("Unmatched closing ')'", pattern, at - 1);
         }
@@ -84,6 +93,14 @@ public final class Pattern implements java.io.Serializable {
         return flags;
     }
 
+    public java.util.function.Predicate<String> asPredicate() {
+        return new java.util.function.Predicate<String>() {
+            public boolean test(String text) {
+                return matcher(text).find();
+            }
+        };
+    }
+
     public String toString() {
         return pattern;
     }
@@ -120,14 +137,36 @@ public final class Pattern implements java.io.Serializable {
 
     // ---- reading
 
-    /** Nodes in a row, whose last has none behind it yet. */
+    /** Nodes in a row, whose last has none behind it yet, and how many chars they match at most. */
     private static final class Part {
         final Node first;
         Node last;
+        int longest;
 
-        Part(Node first, Node last) {
+        Part(Node first, Node last, int longest) {
             this.first = first;
             this.last = last;
+            this.longest = longest;
+        }
+
+        Part(Node only, int longest) {
+            this(only, only, longest);
+        }
+    }
+
+    private static int capped(long length) {
+        return (int) Math.min(length, ENDLESS);
+    }
+
+    /** With COMMENTS what stands between is skipped: white space, and from `#` to the line's end. */
+    private void skip() {
+        while ((flags & COMMENTS) != 0 && at < pattern.length()
+                && (more('#') || pattern.charAt(at) <= ' ' && Character.isWhitespace(pattern.charAt(at)))) {
+            boolean comment = more('#');
+            at++;
+            while (comment && at < pattern.length() && !more('\n')) {
+                at++;
+            }
         }
     }
 
@@ -168,31 +207,45 @@ public final class Pattern implements java.io.Serializable {
         either.other = rest.first;
         one.last.next = join;
         rest.last.next = join;
-        return new Part(either, join);
+        return new Part(either, join, Math.max(one.longest, rest.longest));
     }
 
     private Part sequence() {
-        Node front = new Node(Node.JOIN);
-        Part all = new Part(front, front);
+        Part all = new Part(new Node(Node.JOIN), 0);
+        skip();
         while (at < pattern.length() && !more('|') && !more(')')) {
             if (take("\\Q")) {
-                while (at < pattern.length() && !take("\\E")) {
-                    Node n = of(taken(""));
-                    append(all, repeated(new Part(n, n)));
-                }
+                quoted(all);
             } else {
                 append(all, repeated(atom()));
             }
+            skip();
         }
         return all;
+    }
+
+    /** What is repeated behind `\E` is the last char. */
+    private void quoted(Part all) {
+        Part last = null;
+        while (at < pattern.length() && !take("\\E")) {
+            if (last != null) {
+                append(all, last);
+            }
+            last = new Part(of(taken("")), 1);
+        }
+        if (last != null) {
+            append(all, repeated(last));
+        }
     }
 
     private static void append(Part all, Part more) {
         all.last.next = more.first;
         all.last = more.last;
+        all.longest = capped((long) all.longest + more.longest);
     }
 
     private Part repeated(Part of) {
+        skip();
         int least;
         int most;
         if (take("*")) {
@@ -225,6 +278,7 @@ public final class Pattern implements java.io.Serializable {
         loop.last.least = least;
         loop.last.most = most;
         loop.last.reluctant = reluctant;
+        loop.longest = most == ENDLESS && loop.last.kind == Node.SETS ? ENDLESS - 1 : capped((long) of.longest * most);
         if (more('{')) {
             throw wrong("Repetition of a repetition, which this library lacks");
         }
@@ -246,7 +300,7 @@ public final class Pattern implements java.io.Serializable {
     private static Part setLoop(Node of) {
         Node n = new Node(Node.SETS);
         n.set = of.set;
-        return new Part(n, n);
+        return new Part(n, 1);
     }
 
     private static Part loop(Part of) {
@@ -255,7 +309,7 @@ public final class Pattern implements java.io.Serializable {
         enter.next = loop;
         loop.body = of.first;
         of.last.next = loop;
-        return new Part(enter, loop);
+        return new Part(enter, loop, of.longest);
     }
 
     /** What is matched by itself, from a place on. */
@@ -263,12 +317,28 @@ public final class Pattern implements java.io.Serializable {
         Node n = new Node(kind);
         n.body = body.first;
         body.last.next = new Node(Node.STOP);
-        return new Part(n, n);
+        return new Part(n, kind == Node.ATOMIC ? body.longest : 0);
+    }
+
+    /** What stands behind a place: from no place further off than is matched at most. */
+    private Part behind(int kind, Part body) {
+        if (body.longest == ENDLESS) {
+            throw wrong("Look-behind group does not have an obvious maximum length");
+        }
+        Node n = new Node(kind);
+        n.body = body.first;
+        n.most = body.longest;
+        body.last.next = new Node(Node.STOP_THERE);
+        return new Part(n, 0);
+    }
+
+    private CharSet set(boolean not) {
+        return new CharSet(not, (flags & CASE_INSENSITIVE) == 0 ? 0 : (flags & UNICODE_CASE) == 0 ? 0x7f : 0xff);
     }
 
     private Node of(char c) {
         Node n = new Node(Node.SET);
-        n.set = new CharSet(false, (flags & CASE_INSENSITIVE) != 0);
+        n.set = set(false);
         n.set.add(c, c);
         return n;
     }
@@ -285,7 +355,7 @@ public final class Pattern implements java.io.Serializable {
                 break;
             case '.':
                 n = new Node(Node.SET);
-                n.set = new CharSet(true, false);
+                n.set = new CharSet(true, 0);
                 if ((flags & DOTALL) == 0) {
                     n.set.addAll("\n\n\r\r\u0085\u0085\u2028\u2029");
                 }
@@ -302,12 +372,28 @@ public final class Pattern implements java.io.Serializable {
                 at--;
                 throw wrong("Dangling meta character '" + c + "'");
             case '\\':
+                if (take("R")) {
+                    return lineBreak();
+                }
                 n = escaped();
                 break;
             default:
                 n = of(c);
         }
-        return new Part(n, n);
+        return new Part(n, n.kind == Node.SET ? 1 : n.kind == Node.BACK ? ENDLESS : 0);
+    }
+
+    /** CR and LF, or one char that breaks lines. */
+    private Part lineBreak() {
+        Node either = new Node(Node.EITHER);
+        Node join = new Node(Node.JOIN);
+        either.next = of('\r');
+        either.next.next = of('\n');
+        either.next.next.next = join;
+        either.other = of('\n');
+        either.other.set.addAll(known('v'));
+        either.other.next = join;
+        return new Part(either, join, 2);
     }
 
     private Node escaped() {
@@ -315,11 +401,16 @@ public final class Pattern implements java.io.Serializable {
         Node n;
         if (c == 'b' || c == 'B') {
             n = new Node(c == 'b' ? Node.BOUNDARY : Node.NO_BOUNDARY);
-        } else if (c == 'A' || c == 'z') {
-            n = new Node(c == 'A' ? Node.BEGIN : Node.END_OF_ALL);
+        } else if (c == 'A' || c == 'z' || c == 'Z' || c == 'G') {
+            n = new Node(c == 'A' ? Node.BEGIN : c == 'z' ? Node.END_OF_ALL : c == 'Z' ? Node.END : Node.AFTER_LAST);
         } else if (c >= '1' && c <= '9') {
             n = new Node(Node.BACK);
-            n.least = 2 * (c - '0');
+            int group = c - '0';
+            while (at < pattern.length() && Character.isDigit(pattern.charAt(at)) && 10 * group + pattern.charAt(at) - '0' <= groups) {
+                group = 10 * group + pattern.charAt(at) - '0';
+                at++;
+            }
+            n.least = 2 * group;
         } else if (c == 'k') {
             if (!take("<")) {
                 throw wrong("\\k is not followed by '<' for named capturing group");
@@ -327,6 +418,7 @@ public final class Pattern implements java.io.Serializable {
             String name = name();
             int group = groupOf(name);
             if (group < 0) {
+                at--;
                 throw wrong("named capturing group <" + name + "> does not exist");
             }
             n = new Node(Node.BACK);
@@ -334,7 +426,7 @@ public final class Pattern implements java.io.Serializable {
         } else {
             at -= 2;
             n = new Node(Node.SET);
-            n.set = new CharSet(false, (flags & CASE_INSENSITIVE) != 0);
+            n.set = set(false);
             int known = item(n.set);
             if (known >= 0) {
                 n.set.add(known, known);
@@ -343,7 +435,46 @@ public final class Pattern implements java.io.Serializable {
         return n;
     }
 
+    /** Flags of a group or of what follows, from behind the `?`; whether a group follows. */
+    private boolean inline() {
+        boolean on = true;
+        while (true) {
+            char c = taken("Unknown inline modifier");
+            int bit = LETTERS.indexOf(c, 1);
+            if (c == ':' || c == ')') {
+                return c == ':';
+            } else if (c == '-' && on) {
+                on = false;
+            } else if (bit < 0 || c == '?') {
+                at--;
+                throw wrong("Unknown inline modifier");
+            } else {
+                flags = on ? flags | 1 << bit : flags & ~(1 << bit);
+            }
+        }
+    }
+
     private Part group() {
+        int before = flags;
+        if (more('?') && at + 1 < pattern.length() && LETTERS.concat("-").indexOf(pattern.charAt(at + 1), 1) >= 0) {
+            at++;
+            if (!inline()) {
+                return new Part(new Node(Node.JOIN), 0);
+            }
+            return closed(alternatives(), before);
+        }
+        return closed(opened(), before);
+    }
+
+    private Part closed(Part part, int before) {
+        if (!take(")")) {
+            throw wrong("Unclosed group");
+        }
+        flags = before;
+        return part;
+    }
+
+    private Part opened() {
         Part part;
         if (take("?:")) {
             part = alternatives();
@@ -353,8 +484,13 @@ public final class Pattern implements java.io.Serializable {
             part = inside(Node.NOT_AHEAD, alternatives());
         } else if (take("?>")) {
             part = inside(Node.ATOMIC, alternatives());
-        } else if (pattern.startsWith("?<=", at) || pattern.startsWith("?<!", at) || more('?') && !pattern.startsWith("?<", at)) {
-            throw wrong("Group of a kind that this library lacks");
+        } else if (take("?<=")) {
+            part = behind(Node.BEHIND, alternatives());
+        } else if (take("?<!")) {
+            part = behind(Node.NOT_BEHIND, alternatives());
+        } else if (more('?') && !pattern.startsWith("?<", at)) {
+            at++;
+            throw wrong("Unknown inline modifier");
         } else {
             groups++;
             if (take("?<")) {
@@ -374,10 +510,7 @@ public final class Pattern implements java.io.Serializable {
             Part inner = alternatives();
             open.next = inner.first;
             inner.last.next = close;
-            part = new Part(open, close);
-        }
-        if (!take(")")) {
-            throw wrong("Unclosed group");
+            part = new Part(open, close, inner.longest);
         }
         return part;
     }
@@ -405,29 +538,39 @@ public final class Pattern implements java.io.Serializable {
 
     /** A class, from behind its bracket. */
     private CharSet set() {
-        CharSet set = new CharSet(take("^"), (flags & CASE_INSENSITIVE) != 0);
+        CharSet all = set(take("^"));
+        CharSet set = all;
         do {
+            skip();
             if (at == pattern.length()) {
                 at--;
                 throw wrong("Unclosed character class");
             }
-            if (more('[') || pattern.startsWith("&&", at)) {
-                throw wrong("Class within a class, which this library lacks");
+            if (take("[")) {
+                set.join(set());
+                continue;
+            }
+            if (take("&&")) {
+                set.and = set(false);
+                set = set.and;
+                continue;
             }
             int low = item(set);
             if (low >= 0) {
                 int high = low;
-                if (more('-') && !pattern.startsWith("-]", at)) {
+                if (more('-') && !pattern.startsWith("-]", at) && !pattern.startsWith("-[", at)) {
                     at++;
                     high = item(set);
                     if (high < low) {
+                        at--;
                         throw wrong("Illegal character range");
                     }
                 }
                 set.add(low, high);
             }
+            skip();
         } while (!take("]"));
-        return set;
+        return all;
     }
 
     /** One char; or -1 where a class of several was added. */
@@ -441,19 +584,29 @@ public final class Pattern implements java.io.Serializable {
             case 'd':
             case 'w':
             case 's':
+            case 'h':
+            case 'v':
                 set.addAll(known(c));
                 return -1;
             case 'D':
             case 'W':
             case 'S':
+            case 'H':
+            case 'V':
                 set.addAllBut(known((char) (c + 'a' - 'A')));
                 return -1;
             case 'p':
-                if (!take("{")) {
-                    throw wrong("Class of a kind that this library lacks");
-                }
                 set.addAll(named());
                 return -1;
+            case 'P':
+                set.addAllBut(named());
+                return -1;
+            case 'a':
+                return 7;
+            case 'e':
+                return 27;
+            case 'x':
+                return hex(2, "Illegal hexadecimal escape sequence");
             case 'n':
                 return '\n';
             case 't':
@@ -462,12 +615,19 @@ public final class Pattern implements java.io.Serializable {
                 return '\r';
             case 'f':
                 return '\f';
-            case 'u': {
-                if (at + 4 > pattern.length()) {
-                    throw wrong("Illegal Unicode escape sequence");
+            case 'u':
+                return hex(4, "Illegal Unicode escape sequence");
+            case '0': {
+                int n = 0;
+                int from = at;
+                while (at < from + 3 && at < pattern.length() && Character.digit(pattern.charAt(at), 8) >= 0 && n < 32) {
+                    n = 8 * n + pattern.charAt(at) - '0';
+                    at++;
                 }
-                at += 4;
-                return Integer.parseInt(pattern.substring(at - 4, at), 16);
+                if (at == from) {
+                    throw wrong("Illegal octal escape sequence");
+                }
+                return n;
             }
             default:
                 if (c >= 'a' && c <= 'z' || c >= 'A' && c <= 'Z' || c >= '0' && c <= '9') {
@@ -478,20 +638,77 @@ public final class Pattern implements java.io.Serializable {
         }
     }
 
-    /** Pairs of a least and a greatest char. */
+    private int hex(int count, String wrong) {
+        int n = 0;
+        for (int i = 0; i < count; i++) {
+            int digit = Character.digit(taken(wrong), 16);
+            if (digit < 0) {
+                throw wrong(wrong);
+            }
+            n = 16 * n + digit;
+        }
+        return n;
+    }
+
+    /** Pairs of a least and a greatest char, the least pair first. */
     private static String known(char c) {
-        return c == 'd' ? "09" : c == 'w' ? "09AZ__az" : "\t\r  ";
+        switch (c) {
+            case 'd':
+                return "09";
+            case 'w':
+                return "09AZ__az";
+            case 's':
+                return "\t\r  ";
+            case 'h':
+                return "\t\t  \u00a0\u00a0\u1680\u1680\u180e\u180e\u2000\u200a\u202f\u202f\u205f\u205f\u3000\u3000";
+            default:
+                return "\n\r\u0085\u0085\u2028\u2029";
+        }
     }
 
     private String named() {
-        int end = pattern.indexOf('}', at);
-        String name = end < 0 ? "" : pattern.substring(at, end);
-        at = end + 1;
+        String name = String.valueOf(taken("Illegal/unsupported escape sequence"));
+        if (name.equals("{")) {
+            int end = pattern.indexOf('}', at);
+            if (end < 0) {
+                throw wrong("Unclosed character family");
+            }
+            name = pattern.substring(at, end);
+            at = end + 1;
+        }
         switch (name) {
             case "Lower":
                 return "az";
             case "Upper":
                 return "AZ";
+            case "ASCII":
+                return "\0\u007f";
+            case "Blank":
+                return "\t\t  ";
+            case "Cntrl":
+                return "\0\u001f\u007f\u007f";
+            case "Graph":
+                return "!~";
+            case "Print":
+                return " ~";
+            case "javaWhitespace":
+                return "\t\r\u001c ";
+            case "Nd":
+            case "IsDigit":
+            case "javaDigit":
+                return "09";
+            case "Lu":
+            case "IsUppercase":
+            case "javaUpperCase":
+                return "AZ\u00c0\u00d6\u00d8\u00de";
+            case "Ll":
+                return "az\u00b5\u00b5\u00df\u00f6\u00f8\u00ff";
+            case "IsLowercase":
+            case "javaLowerCase":
+                return "az\u00aa\u00aa\u00b5\u00b5\u00ba\u00ba\u00df\u00f6\u00f8\u00ff";
+            case "P":
+            case "IsPunctuation":
+                return "!#%*,/:;?@[]__{{}}\u00a1\u00a1\u00a7\u00a7\u00ab\u00ab\u00b6\u00b7\u00bb\u00bb\u00bf\u00bf";
             case "Alpha":
                 return "AZaz";
             case "Digit":
@@ -505,19 +722,28 @@ public final class Pattern implements java.io.Serializable {
             case "XDigit":
                 return "09AFaf";
             case "L":
+            case "IsL":
+            case "IsLetter":
+            case "javaLetter":
             case "IsAlphabetic":
                 return "AZaz\u00aa\u00aa\u00b5\u00b5\u00ba\u00ba\u00c0\u00d6\u00d8\u00f6\u00f8\u00ff";
             default:
-                throw wrong("Class of a kind that this library lacks");
+                at--;
+                throw wrong("Unknown character property name {" + name + "}");
         }
     }
 
+    /** Chars by pairs, with those of other classes, and of these the ones that are in another, too. */
     private static final class CharSet {
         private final boolean not;
-        private final boolean anyCase;
+        /** Up to which char letters stand for those of the other case, too: 0 for none. */
+        private final int anyCase;
         private String pairs = "";
+        private CharSet joined;
+        private CharSet nextJoined;
+        CharSet and;
 
-        CharSet(boolean not, boolean anyCase) {
+        CharSet(boolean not, int anyCase) {
             this.not = not;
             this.anyCase = anyCase;
         }
@@ -533,10 +759,17 @@ public final class Pattern implements java.io.Serializable {
         void addAllBut(String others) {
             int low = 0;
             for (int i = 0; i < others.length(); i += 2) {
-                add(low, others.charAt(i) - 1);
+                if (others.charAt(i) > low) {
+                    add(low, others.charAt(i) - 1);
+                }
                 low = others.charAt(i + 1) + 1;
             }
             add(low, 0xffff);
+        }
+
+        void join(CharSet other) {
+            other.nextJoined = joined;
+            joined = other;
         }
 
         private boolean hasPair(char c) {
@@ -550,22 +783,32 @@ public final class Pattern implements java.io.Serializable {
 
         boolean has(char c) {
             boolean there = hasPair(c)
-                || anyCase && (c >= 'a' && c <= 'z' && hasPair((char) (c - 32)) || c >= 'A' && c <= 'Z' && hasPair((char) (c + 32)));
-            return there != not;
+                || c <= anyCase && (hasPair(Character.toUpperCase(c)) || hasPair(Character.toLowerCase(c)));
+            for (CharSet other = joined; other != null && !there; other = other.nextJoined) {
+                there = other.has(c);
+            }
+            return (there && (and == null || and.has(c))) != not;
         }
     }
 
     // ---- matching
 
-    /** What a match is made of: the text, where the groups stand, and whether all of the text is wanted. */
+    /** What a match is made of: the text, its part that is looked at, where the groups stand, and whether all of that part is wanted. */
     static final class Run {
         final String text;
+        final int from;
+        final int to;
+        final int last;
         final boolean whole;
         final int[] places;
         private int stopped;
+        private int stop;
 
-        Run(String text, boolean whole, int[] places) {
+        Run(String text, int from, int to, int last, boolean whole, int[] places) {
             this.text = text;
+            this.from = from;
+            this.to = to;
+            this.last = last;
             this.whole = whole;
             this.places = places;
         }
@@ -605,6 +848,10 @@ public final class Pattern implements java.io.Serializable {
         static final int ATOMIC = 17;
         static final int LINE_BEGIN = 18;
         static final int LINE_END = 19;
+        static final int BEHIND = 20;
+        static final int NOT_BEHIND = 21;
+        static final int STOP_THERE = 22;
+        static final int AFTER_LAST = 23;
 
         final int kind;
         Node next;
@@ -622,7 +869,7 @@ public final class Pattern implements java.io.Serializable {
         boolean match(Run run, int i, Rounds rounds) {
             switch (kind) {
                 case ACCEPT:
-                    if (run.whole && i < run.text.length()) {
+                    if (run.whole && i < run.to) {
                         return false;
                     }
                     run.places[1] = i;
@@ -633,7 +880,7 @@ public final class Pattern implements java.io.Serializable {
                 case JOIN:
                     return next.match(run, i, rounds);
                 case SET:
-                    return i < run.text.length() && set.has(run.text.charAt(i)) && next.match(run, i + 1, rounds);
+                    return has(run, i) && next.match(run, i + 1, rounds);
                 case SETS:
                     return reluctant ? few(run, i, rounds) : many(run, i, rounds);
                 case EITHER:
@@ -647,19 +894,27 @@ public final class Pattern implements java.io.Serializable {
                 case BACK:
                     return back(run, i, rounds);
                 case BEGIN:
-                    return i == 0 && next.match(run, i, rounds);
+                    return i == run.from && next.match(run, i, rounds);
                 case END:
-                    return isEnd(run.text, i) && next.match(run, i, rounds);
+                    return isEnd(run, i) && next.match(run, i, rounds);
                 case END_OF_ALL:
-                    return i == run.text.length() && next.match(run, i, rounds);
+                    return i == run.to && next.match(run, i, rounds);
                 case LINE_BEGIN:
-                    return i < run.text.length() && (i == 0 || isBreak(run.text, i - 1, i)) && next.match(run, i, rounds);
+                    return i < run.to && (i == run.from || isBreak(run.text, i - 1, i)) && next.match(run, i, rounds);
                 case LINE_END:
-                    return (i == run.text.length() || isBreak(run.text, i, i)) && next.match(run, i, rounds);
+                    return (i == run.to || isBreak(run.text, i, i)) && next.match(run, i, rounds);
                 case BOUNDARY:
-                    return isBoundary(run.text, i) && next.match(run, i, rounds);
+                    return isBoundary(run, i) && next.match(run, i, rounds);
                 case NO_BOUNDARY:
-                    return !isBoundary(run.text, i) && next.match(run, i, rounds);
+                    return !isBoundary(run, i) && next.match(run, i, rounds);
+                case AFTER_LAST:
+                    return i == run.last && next.match(run, i, rounds);
+                case STOP_THERE:
+                    return i == run.stop;
+                case BEHIND:
+                    return isBehind(run, i) && next.match(run, i, rounds);
+                case NOT_BEHIND:
+                    return !isBehind(run, i) && next.match(run, i, rounds);
                 case AHEAD:
                     return body.match(run, i, null) && next.match(run, i, rounds);
                 case NOT_AHEAD:
@@ -670,7 +925,18 @@ public final class Pattern implements java.io.Serializable {
         }
 
         private boolean has(Run run, int i) {
-            return i < run.text.length() && set.has(run.text.charAt(i));
+            return i < run.to && set.has(run.text.charAt(i));
+        }
+
+        private boolean isBehind(Run run, int i) {
+            int outer = run.stop;
+            run.stop = i;
+            boolean found = false;
+            for (int from = i; !found && from >= run.from && i - from <= most; from--) {
+                found = body.match(run, from, null);
+            }
+            run.stop = outer;
+            return found;
         }
 
         private boolean many(Run run, int i, Rounds rounds) {
@@ -731,12 +997,13 @@ public final class Pattern implements java.io.Serializable {
                 return false;
             }
             int n = run.places[least + 1] - run.places[least];
-            return run.text.regionMatches(i, run.text, run.places[least], n) && next.match(run, i + n, rounds);
+            return i + n <= run.to && run.text.regionMatches(i, run.text, run.places[least], n) && next.match(run, i + n, rounds);
         }
 
         /** The end of the text, or of what stands before its last line's end. */
-        private static boolean isEnd(String text, int i) {
-            int left = text.length() - i;
+        private static boolean isEnd(Run run, int i) {
+            String text = run.text;
+            int left = run.to - i;
             return left == 0 || left == 1 && (text.charAt(i) == '\n' && (i == 0 || text.charAt(i - 1) != '\r') || text.charAt(i) == '\r')
                 || left == 2 && text.charAt(i) == '\r' && text.charAt(i + 1) == '\n';
         }
@@ -748,12 +1015,12 @@ public final class Pattern implements java.io.Serializable {
                 && !(place > 0 && text.charAt(place) == '\n' && text.charAt(place - 1) == '\r');
         }
 
-        private static boolean isWord(String text, int i) {
-            return i >= 0 && i < text.length() && (Character.isLetterOrDigit(text.charAt(i)) || text.charAt(i) == '_');
+        private static boolean isWord(Run run, int i) {
+            return i >= run.from && i < run.to && (Character.isLetterOrDigit(run.text.charAt(i)) || run.text.charAt(i) == '_');
         }
 
-        private static boolean isBoundary(String text, int i) {
-            return isWord(text, i - 1) != isWord(text, i);
+        private static boolean isBoundary(Run run, int i) {
+            return isWord(run, i - 1) != isWord(run, i);
         }
     }
 }

@@ -36,6 +36,24 @@ public class AtomicReference<V> implements java.io.Serializable {
         return same;
     }
 
+    public final V getAndUpdate(java.util.function.UnaryOperator<V> change) {
+        return getAndSet(change.apply(value));
+    }
+
+    public final V updateAndGet(java.util.function.UnaryOperator<V> change) {
+        value = change.apply(value);
+        return value;
+    }
+
+    public final V getAndAccumulate(V other, java.util.function.BinaryOperator<V> join) {
+        return getAndSet(join.apply(value, other));
+    }
+
+    public final V accumulateAndGet(V other, java.util.function.BinaryOperator<V> join) {
+        value = join.apply(value, other);
+        return value;
+    }
+
     public String toString() {
         return String.valueOf(value);
     }
