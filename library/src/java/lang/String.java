@@ -454,6 +454,7 @@ public final class String implements java.io.Serializable, Comparable<String>, C
     }
 
     public static String join(CharSequence between, CharSequence... parts) {
+        java.util.Objects.requireNonNull(between);
         StringBuilder out = new StringBuilder();
         for (int i = 0; i < parts.length; i++) {
             if (i > 0) {
@@ -465,6 +466,7 @@ public final class String implements java.io.Serializable, Comparable<String>, C
     }
 
     public static String join(CharSequence between, Iterable<? extends CharSequence> parts) {
+        java.util.Objects.requireNonNull(between);
         StringBuilder out = new StringBuilder();
         boolean first = true;
         for (CharSequence part : parts) {

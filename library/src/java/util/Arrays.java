@@ -118,6 +118,7 @@ public class Arrays {
     }
 
     public static int binarySearch(int[] a, int from, int to, int key) {
+        check(from, to, a.length);
         int low = from;
         int high = to - 1;
         while (low <= high) {
@@ -247,6 +248,7 @@ public class Arrays {
     }
 
     public static int binarySearch(long[] a, int from, int to, long key) {
+        check(from, to, a.length);
         int low = from;
         int high = to - 1;
         while (low <= high) {
@@ -376,6 +378,7 @@ public class Arrays {
     }
 
     public static int binarySearch(char[] a, int from, int to, char key) {
+        check(from, to, a.length);
         int low = from;
         int high = to - 1;
         while (low <= high) {
@@ -505,6 +508,7 @@ public class Arrays {
     }
 
     public static int binarySearch(byte[] a, int from, int to, byte key) {
+        check(from, to, a.length);
         int low = from;
         int high = to - 1;
         while (low <= high) {
@@ -634,6 +638,7 @@ public class Arrays {
     }
 
     public static int binarySearch(short[] a, int from, int to, short key) {
+        check(from, to, a.length);
         int low = from;
         int high = to - 1;
         while (low <= high) {
@@ -727,7 +732,8 @@ public class Arrays {
             throw new IllegalArgumentException(from + " > " + to);
         }
         if (from < 0 || from > length) {
-            throw new ArrayIndexOutOfBoundsException("Array index out of range: " + from);
+            throw new ArrayIndexOutOfBoundsException(from < 0 ? "Array index out of range: " + from
+                : "arraycopy: length " + (length - from) + " is negative");
         }
     }
 
@@ -1001,6 +1007,13 @@ public class Arrays {
 
         public T get(int index) {
             return items[index];
+        }
+
+        public boolean remove(Object o) {
+            if (contains(o)) {
+                throw new UnsupportedOperationException("remove");
+            }
+            return false;
         }
 
         public T set(int index, T item) {

@@ -334,6 +334,10 @@ public class Collections {
             return of.next();
         }
 
+        public void remove() {
+            throw new UnsupportedOperationException();
+        }
+
         public boolean hasMoreElements() {
             return of.hasNext();
         }

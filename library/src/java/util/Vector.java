@@ -133,6 +133,9 @@ public class Vector<E> extends ItemList<E> implements List<E>, RandomAccess, Clo
     }
 
     public void removeElementAt(int index) {
+        if (index >= size()) {
+            throw new ArrayIndexOutOfBoundsException(index + " >= " + size());
+        }
         remove(index);
     }
 

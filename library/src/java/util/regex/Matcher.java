@@ -11,6 +11,7 @@ public final class Matcher implements MatchResult {
     /** Where the last match ended. */
     private int last;
     private int appended;
+    private boolean hitEnd;
 
     Matcher(Pattern pattern, String text) {
         this.pattern = pattern;
@@ -34,6 +35,7 @@ public final class Matcher implements MatchResult {
         int[] found = run.places;
         found[0] = start;
         places = pattern.match(run, start) ? found : null;
+        hitEnd = run.hitEnd;
         if (places != null) {
             last = found[1];
             next = last == start ? start + 1 : last;
@@ -127,7 +129,7 @@ public final class Matcher implements MatchResult {
     }
 
     public boolean hitEnd() {
-        return next >= to;
+        return hitEnd;
     }
 
     // ---- where it matched

@@ -801,6 +801,8 @@ public final class Pattern implements java.io.Serializable {
         final int last;
         final boolean whole;
         final int[] places;
+        /** Whether a char behind the end was asked for. */
+        boolean hitEnd;
         private int stopped;
         private int stop;
 
@@ -898,11 +900,11 @@ public final class Pattern implements java.io.Serializable {
                 case END:
                     return isEnd(run, i) && next.match(run, i, rounds);
                 case END_OF_ALL:
-                    return i == run.to && next.match(run, i, rounds);
+                    return isLast(run, i) && next.match(run, i, rounds);
                 case LINE_BEGIN:
                     return i < run.to && (i == run.from || isBreak(run.text, i - 1, i)) && next.match(run, i, rounds);
                 case LINE_END:
-                    return (i == run.to || isBreak(run.text, i, i)) && next.match(run, i, rounds);
+                    return (isLast(run, i) || isBreak(run.text, i, i)) && next.match(run, i, rounds);
                 case BOUNDARY:
                     return isBoundary(run, i) && next.match(run, i, rounds);
                 case NO_BOUNDARY:
@@ -925,7 +927,18 @@ public final class Pattern implements java.io.Serializable {
         }
 
         private boolean has(Run run, int i) {
-            return i < run.to && set.has(run.text.charAt(i));
+            if (i >= run.to) {
+                run.hitEnd = true;
+                return false;
+            }
+            return set.has(run.text.charAt(i));
+        }
+
+        private static boolean isLast(Run run, int i) {
+            if (i == run.to) {
+                run.hitEnd = true;
+            }
+            return i == run.to;
         }
 
         private boolean isBehind(Run run, int i) {
@@ -1004,7 +1017,7 @@ public final class Pattern implements java.io.Serializable {
         private static boolean isEnd(Run run, int i) {
             String text = run.text;
             int left = run.to - i;
-            return left == 0 || left == 1 && (text.charAt(i) == '\n' && (i == 0 || text.charAt(i - 1) != '\r') || text.charAt(i) == '\r')
+            return isLast(run, i) || left == 1 && (text.charAt(i) == '\n' && (i == 0 || text.charAt(i - 1) != '\r') || text.charAt(i) == '\r')
                 || left == 2 && text.charAt(i) == '\r' && text.charAt(i + 1) == '\n';
         }
 
