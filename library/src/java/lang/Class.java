@@ -87,10 +87,6 @@ public final class Class<T> implements java.io.Serializable {
         return name.charAt(0) == '[';
     }
 
-    public boolean isAnonymousClass() {
-        return getSimpleName().isEmpty();
-    }
-
     private String arrayTypeName() {
         return name.charAt(1) == 'L' ? name.substring(2, name.length() - 1).concat("[]") : arrayName();
     }

@@ -984,12 +984,6 @@ public class Arrays {
         }
     }
 
-    public static void parallelPrefix(int[] a, java.util.function.IntBinaryOperator join) {
-        for (int i = 1; i < a.length; i++) {
-            a[i] = join.applyAsInt(a[i - 1], a[i]);
-        }
-    }
-
     public static <T> List<T> asList(T... items) {
         return new Items<T>(items);
     }

@@ -105,13 +105,15 @@ public final class Formats {
         if ("dxXosScCbBhHn%".indexOf(how) < 0 && "eEfgGaAtT".indexOf(how) < 0) {
             throw new UnknownFormatConversionException(String.valueOf(how));
         }
-        check(how, flags, width, precision, format.substring(begin - 1, at));
+        if (!flags.isEmpty() || precision >= 0) {
+            check(how, flags, how == '%' ? -1 : place, width, precision);
+        }
         if (how == 'n') {
             out.append('\n');
         } else if (how == '%') {
             pad("%", flags, width);
         } else if (!judges) {
-            Object value = value(place, flags, format.substring(begin - 1, at));
+            Object value = value(how, flags, place, width, precision);
             pad(text(value, how, flags, width, precision), flags, width);
         }
     }
@@ -128,8 +130,25 @@ public final class Formats {
         }
     }
 
+    private static String sorted(String flags, boolean upper) {
+        String all = upper ? "-^#+ 0,(<" : "-#+ 0,(<";
+        String found = "";
+        for (int i = 0; i < all.length(); i++) {
+            if (all.charAt(i) == '^' || has(flags, all.charAt(i))) {
+                found = found.concat(all.substring(i, i + 1));
+            }
+        }
+        return found;
+    }
+
+    /** A specifier as exceptions tell it. */
+    private static String told(char how, String flags, int place, int width, int precision) {
+        return "%" + sorted(flags, false) + (place < 0 ? "" : place + 1 + "$") + (width < 0 ? "" : width)
+            + (precision < 0 ? "" : "." + precision) + how;
+    }
+
     /** What is wrong with a specifier, whatever its value. */
-    private static void check(char how, String flags, int width, int precision, String specifier) {
+    private static void check(char how, String flags, int place, int width, int precision) {
         boolean isNumber = "dxXo".indexOf(how) >= 0;
         boolean isText = "sSbBhH".indexOf(how) >= 0;
         if ("bBhH".indexOf(how) >= 0) {
@@ -141,7 +160,7 @@ public final class Formats {
                 throw new IllegalFormatPrecisionException(precision);
             }
             if (!others.isEmpty()) {
-                throw new IllegalFormatFlagsException(flags);
+                throw new IllegalFormatFlagsException(sorted(flags, false));
             }
         }
         if (how == 'c' || how == 'C') {
@@ -151,7 +170,7 @@ public final class Formats {
             refuse("#+ 0,(", flags, how);
         }
         if (width < 0 && how != 'n' && (has(flags, '-') || isNumber && has(flags, '0'))) {
-            throw new MissingFormatWidthException(specifier);
+            throw new MissingFormatWidthException(told(how, flags, place, width, precision));
         }
         if (isText) {
             refuse("+ 0,(", flags, how);
@@ -159,11 +178,7 @@ public final class Formats {
         if (isNumber) {
             boolean signs = has(flags, '+') && has(flags, ' ');
             if (signs || has(flags, '-') && has(flags, '0')) {
-                StringBuilder all = new StringBuilder();
-                for (char c : (how == 'X' ? "-^#+ 0,(<" : "-#+ 0,(<").toCharArray()) {
-                    all.append(c == '^' || has(flags, c) ? String.valueOf(c) : "");
-                }
-                throw new IllegalFormatFlagsException(all.toString());
+                throw new IllegalFormatFlagsException(sorted(flags, how == 'X'));
             }
             if (precision >= 0) {
                 throw new IllegalFormatPrecisionException(precision);
@@ -172,7 +187,8 @@ public final class Formats {
         }
     }
 
-    private Object value(int place, String flags, String specifier) {
+    private Object value(char how, String flags, int given, int width, int precision) {
+        int place = given;
         if (flags.indexOf('<') >= 0) {
             place = last;
         } else if (place < 0) {
@@ -180,7 +196,7 @@ public final class Formats {
             ordinary++;
         }
         if (place < 0 || values != null && place >= values.length) {
-            throw new MissingFormatArgumentException(specifier);
+            throw new MissingFormatArgumentException(told(how, flags, given, width, precision));
         }
         last = place;
         return values == null ? null : values[place];
@@ -232,7 +248,7 @@ public final class Formats {
                 if (value == null) {
                     return cut("null", precision);
                 }
-                throw new IllegalFormatConversionException(how, value);
+                throw new IllegalFormatConversionException(Character.toLowerCase(how), value);
         }
     }
 
@@ -247,15 +263,15 @@ public final class Formats {
         if (value instanceof Integer || value instanceof Short || value instanceof Byte) {
             return String.of(Character.toChars(((Number) value).intValue()));
         }
-        throw new IllegalFormatConversionException(how, value);
+        throw new IllegalFormatConversionException(Character.toLowerCase(how), value);
     }
 
     private static String integer(Object value, char how, String flags, int width) {
         if (!(value instanceof Number)) {
-            throw new IllegalFormatConversionException(how, value);
+            throw new IllegalFormatConversionException(Character.toLowerCase(how), value);
         }
         if (how == 'd') {
-            return signed(value.toString(), flags, width);
+            return signed(value.toString(), "", flags, width);
         }
         if (!(value instanceof java.math.BigInteger)) {
             refuse("( +", flags, how);
@@ -264,7 +280,7 @@ public final class Formats {
         String front = flags.indexOf('#') < 0 ? "" : how == 'o' ? "0" : "0x";
         String text;
         if (value instanceof java.math.BigInteger) {
-            text = signed(((java.math.BigInteger) value).toString(radix), flags, width);
+            text = signed(((java.math.BigInteger) value).toString(radix), front, flags, width);
         } else {
             long l = ((Number) value).longValue();
             long bits = value instanceof Long ? l
@@ -284,11 +300,12 @@ public final class Formats {
         return zeros.toString();
     }
 
-    private static String signed(String text, String flags, int width) {
+    private static String signed(String text, String prefix, String flags, int width) {
         boolean negative = text.charAt(0) == '-';
         String digits = negative ? text.substring(1) : text;
         boolean closes = negative && flags.indexOf('(') >= 0;
-        String front = closes ? "(" : negative ? "-" : flags.indexOf('+') >= 0 ? "+" : flags.indexOf(' ') >= 0 ? " " : "";
+        String sign = closes ? "(" : negative ? "-" : flags.indexOf('+') >= 0 ? "+" : flags.indexOf(' ') >= 0 ? " " : "";
+        String front = sign.concat(prefix);
         String behind = closes ? ")" : "";
         if (flags.indexOf(',') >= 0) {
             digits = grouped(digits);

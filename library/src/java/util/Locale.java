@@ -6,8 +6,6 @@ public final class Locale implements Cloneable, java.io.Serializable {
     public static final Locale ENGLISH = new Locale("en", "");
     public static final Locale US = new Locale("en", "US");
     public static final Locale UK = new Locale("en", "GB");
-    public static final Locale FRANCE = new Locale("fr", "FR");
-    public static final Locale GERMANY = new Locale("de", "DE");
 
     private static Locale standard = US;
 

@@ -211,7 +211,7 @@ public final class Scanner implements Iterator<String>, java.io.Closeable {
         while (at(n) >= 0 && !endsLine(at(n))) {
             n++;
         }
-        return sought(pattern, rest(n), false);
+        return n == 0 ? null : sought(pattern, rest(n), false);
     }
 
     public String findInLine(String pattern) {
@@ -261,19 +261,22 @@ public final class Scanner implements Iterator<String>, java.io.Closeable {
         }
         int first = i;
         int comma = t.indexOf(',');
+        if (comma >= 0 && (comma == first || comma > first + 3 || (n - comma) % 4 != 0 || t.charAt(first) < '1' || t.charAt(first) > '9')) {
+            return null;
+        }
         for (; i < n; i++) {
             char c = t.charAt(i);
-            if (c == ',') {
-                if (comma == first || comma > first + 3 || (i - comma) % 4 != 0 || (n - i) % 4 != 0) {
+            if (comma >= 0 && i >= comma && (i - comma) % 4 == 0) {
+                if (c != ',') {
                     return null;
                 }
-            } else if (Character.digit(c, radix) < 0) {
+            } else if (Character.digit(c, radix) < 0 && !Character.isDigit(c)) {
                 return null;
             } else {
                 out.append(c);
             }
         }
-        return i > first && (comma < 0 || (n - comma) % 4 == 0) ? out.toString() : null;
+        return i > first ? out.toString() : null;
     }
 
     /** The token's number where it is one of at most 18 digits, which takes no memory; else NO_NUMBER. */

@@ -31,6 +31,7 @@ public final class Matcher implements MatchResult {
         return found;
     }
 
+    /** What was looked at before a place where nothing matched stays in its groups. */
     private boolean tried(Pattern.Run run, int start) {
         int[] found = run.places;
         found[0] = start;
@@ -39,12 +40,8 @@ public final class Matcher implements MatchResult {
         if (places != null) {
             last = found[1];
             next = last == start ? start + 1 : last;
-            return true;
         }
-        for (int i = 1; i < found.length; i++) {
-            found[i] = -1;
-        }
-        return false;
+        return places != null;
     }
 
     public boolean matches() {

@@ -411,6 +411,7 @@ public final class Pattern implements java.io.Serializable {
                 at++;
             }
             n.least = 2 * group;
+            n.anyCase = (flags & CASE_INSENSITIVE) != 0;
         } else if (c == 'k') {
             if (!take("<")) {
                 throw wrong("\\k is not followed by '<' for named capturing group");
@@ -423,6 +424,7 @@ public final class Pattern implements java.io.Serializable {
             }
             n = new Node(Node.BACK);
             n.least = 2 * group;
+            n.anyCase = (flags & CASE_INSENSITIVE) != 0;
         } else {
             at -= 2;
             n = new Node(Node.SET);
@@ -685,8 +687,6 @@ public final class Pattern implements java.io.Serializable {
                 return "\0\u007f";
             case "Blank":
                 return "\t\t  ";
-            case "Cntrl":
-                return "\0\u001f\u007f\u007f";
             case "Graph":
                 return "!~";
             case "Print":
@@ -694,7 +694,6 @@ public final class Pattern implements java.io.Serializable {
             case "javaWhitespace":
                 return "\t\r\u001c ";
             case "Nd":
-            case "IsDigit":
             case "javaDigit":
                 return "09";
             case "Lu":
@@ -722,7 +721,6 @@ public final class Pattern implements java.io.Serializable {
             case "XDigit":
                 return "09AFaf";
             case "L":
-            case "IsL":
             case "IsLetter":
             case "javaLetter":
             case "IsAlphabetic":
@@ -863,6 +861,7 @@ public final class Pattern implements java.io.Serializable {
         int least;
         int most;
         boolean reluctant;
+        boolean anyCase;
 
         Node(int kind) {
             this.kind = kind;
@@ -1010,7 +1009,7 @@ public final class Pattern implements java.io.Serializable {
                 return false;
             }
             int n = run.places[least + 1] - run.places[least];
-            return i + n <= run.to && run.text.regionMatches(i, run.text, run.places[least], n) && next.match(run, i + n, rounds);
+            return i + n <= run.to && run.text.regionMatches(anyCase, i, run.text, run.places[least], n) && next.match(run, i + n, rounds);
         }
 
         /** The end of the text, or of what stands before its last line's end. */
