@@ -4,7 +4,6 @@ public class ByteArrayInputStream extends InputStream {
     private final byte[] bytes;
     private final int end;
     private int at;
-    private int mark;
 
     public ByteArrayInputStream(byte[] bytes) {
         this(bytes, 0, bytes.length);
@@ -13,7 +12,6 @@ public class ByteArrayInputStream extends InputStream {
     public ByteArrayInputStream(byte[] bytes, int offset, int count) {
         this.bytes = bytes;
         this.at = offset;
-        this.mark = offset;
         this.end = Math.min(offset + count, bytes.length);
     }
 
@@ -33,18 +31,6 @@ public class ByteArrayInputStream extends InputStream {
             n++;
         }
         return n == 0 && count > 0 ? -1 : n;
-    }
-
-    public boolean markSupported() {
-        return true;
-    }
-
-    public void mark(int most) {
-        mark = at;
-    }
-
-    public void reset() {
-        at = mark;
     }
 
     public int available() {

@@ -69,26 +69,8 @@ public final class Class<T> implements java.io.Serializable {
         return name.substring(start);
     }
 
-    public String getTypeName() {
-        return name.charAt(0) == '[' ? arrayTypeName() : name;
-    }
-
-    /** Null of a class in a method, as where its name has a number behind a `$`. */
-    public String getCanonicalName() {
-        for (int i = name.indexOf('$') + 1; i > 0; i = name.indexOf('$', i) + 1) {
-            if (i < name.length() && name.charAt(i) >= '0' && name.charAt(i) <= '9') {
-                return null;
-            }
-        }
-        return getTypeName().replace('$', '.');
-    }
-
     public boolean isArray() {
         return name.charAt(0) == '[';
-    }
-
-    private String arrayTypeName() {
-        return name.charAt(1) == 'L' ? name.substring(2, name.length() - 1).concat("[]") : arrayName();
     }
 
     private String arrayName() {

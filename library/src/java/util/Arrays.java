@@ -898,51 +898,10 @@ public class Arrays {
         sort(a, 0, a.length, order);
     }
 
-    /** Merge sort: equal elements keep their order. */
     public static <T> void sort(T[] a, int from, int to, Comparator<? super T> order) {
         check(from, to, a.length);
-        Comparator<Object> by = order == null
-            ? (Comparator<Object>) (Comparator<?>) new Comparators.Natural<Integer>() : (Comparator<Object>) order;
-        if (to - from > 1) {
-            merge(a, new Object[to - from], from, to, from, by);
-        }
-    }
-
-    private static void merge(Object[] a, Object[] spare, int from, int to, int base, Comparator<Object> order) {
-        if (to - from < 7) {
-            for (int i = from + 1; i < to; i++) {
-                Object x = a[i];
-                int j = i;
-                while (j > from && order.compare(a[j - 1], x) > 0) {
-                    a[j] = a[j - 1];
-                    j--;
-                }
-                a[j] = x;
-            }
-            return;
-        }
-        int middle = from + to >>> 1;
-        merge(a, spare, from, middle, base, order);
-        merge(a, spare, middle, to, base, order);
-        if (order.compare(a[middle - 1], a[middle]) <= 0) {
-            return;
-        }
-        for (int i = from; i < middle; i++) {
-            spare[i - base] = a[i];
-        }
-        int i = from;
-        int j = middle;
-        int k = from;
-        while (i < middle) {
-            if (j < to && order.compare(a[j], spare[i - base]) < 0) {
-                a[k] = a[j];
-                j++;
-            } else {
-                a[k] = spare[i - base];
-                i++;
-            }
-            k++;
-        }
+        RunSort.sort(a, from, to, order == null
+            ? (Comparator<Object>) (Comparator<?>) new Comparators.Natural<Integer>() : (Comparator<Object>) order);
     }
 
     public static int binarySearch(Object[] a, Object key) {

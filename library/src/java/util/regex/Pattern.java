@@ -93,14 +93,6 @@ public final class Pattern implements java.io.Serializable {
         return flags;
     }
 
-    public java.util.function.Predicate<String> asPredicate() {
-        return new java.util.function.Predicate<String>() {
-            public boolean test(String text) {
-                return matcher(text).find();
-            }
-        };
-    }
-
     public String toString() {
         return pattern;
     }
