@@ -237,14 +237,6 @@ public class Collections {
         return Collections.<T>emptyList().iterator();
     }
 
-    public static <T> ListIterator<T> emptyListIterator() {
-        return Collections.<T>emptyList().listIterator();
-    }
-
-    public static <T> Enumeration<T> emptyEnumeration() {
-        return new Walk<T>(Collections.<T>emptyIterator());
-    }
-
     public static <T> SortedSet<T> emptySortedSet() {
         return unmodifiableSortedSet(new TreeSet<T>());
     }

@@ -216,15 +216,26 @@ final class RunSort {
     private boolean oneByOne(boolean up) {
         int streak = 0;
         boolean wasOther = false;
+        Object mine = aside[at];
+        Object its = a[other];
         do {
-            boolean isOther = (up ? order.compare(a[other], aside[at]) : order.compare(aside[at], a[other])) < 0;
+            boolean isOther = (up ? order.compare(its, mine) : order.compare(mine, its)) < 0;
             if (isOther) {
-                takeOther(1);
+                a[to] = its;
+                to += step;
+                other += step;
+                if (--otherLeft == 0) {
+                    return false;
+                }
+                its = a[other];
             } else {
-                takeAside(1);
-            }
-            if (isOther ? otherLeft == 0 : left == 1) {
-                return false;
+                a[to] = mine;
+                to += step;
+                at += step;
+                if (--left == 1) {
+                    return false;
+                }
+                mine = aside[at];
             }
             streak = isOther == wasOther ? streak + 1 : 1;
             wasOther = isOther;
