@@ -110,7 +110,7 @@ final class Patterns {
                         in.skip(pattern);
                         break;
                     case 3:
-                        all.append(in.hasNextInt(radix)).append(in.hasNextLong(radix)).append(in.hasNextByte(radix));
+                        all.append(in.hasNextInt(radix)).append(in.hasNextLong(radix));
                         break;
                     case 4:
                         all.append(in.nextLong(radix));

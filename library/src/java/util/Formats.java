@@ -93,14 +93,16 @@ public final class Formats {
         String flags = format.substring(flagsAt, at);
         int width = isDigit() ? number() : -1;
         int precision = -1;
-        if (at < format.length() && format.charAt(at) == '.') {
+        boolean ends = at < format.length();
+        if (ends && format.charAt(at) == '.') {
             at++;
-            precision = isDigit() ? number() : -1;
+            ends = isDigit();
+            precision = number();
         }
-        if (at == format.length()) {
-            throw new UnknownFormatConversionException(format.substring(at - 1));
+        char how = at < format.length() ? format.charAt(at) : '.';
+        if (!ends || how != '%' && !Character.isLetter(how)) {
+            throw new UnknownFormatConversionException(String.valueOf(format.charAt(begin < format.length() ? begin : begin - 1)));
         }
-        char how = format.charAt(at);
         at++;
         if ("dxXosScCbBhHn%".indexOf(how) < 0 && "eEfgGaAtT".indexOf(how) < 0) {
             throw new UnknownFormatConversionException(String.valueOf(how));

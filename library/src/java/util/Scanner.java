@@ -373,18 +373,10 @@ public final class Scanner implements Iterator<String>, java.io.Closeable {
     }
 
     public boolean hasNextShort() {
-        return hasNextShort(radix);
-    }
-
-    public boolean hasNextShort(int radix) {
         return hasNumber(Short.MIN_VALUE, Short.MAX_VALUE, radix);
     }
 
     public boolean hasNextByte() {
-        return hasNextByte(radix);
-    }
-
-    public boolean hasNextByte(int radix) {
         return hasNumber(Byte.MIN_VALUE, Byte.MAX_VALUE, radix);
     }
 
@@ -405,18 +397,10 @@ public final class Scanner implements Iterator<String>, java.io.Closeable {
     }
 
     public short nextShort() {
-        return nextShort(radix);
-    }
-
-    public short nextShort(int radix) {
         return (short) number(Short.MIN_VALUE, Short.MAX_VALUE, radix);
     }
 
     public byte nextByte() {
-        return nextByte(radix);
-    }
-
-    public byte nextByte(int radix) {
         return (byte) number(Byte.MIN_VALUE, Byte.MAX_VALUE, radix);
     }
 

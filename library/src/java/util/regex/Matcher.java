@@ -62,6 +62,7 @@ public final class Matcher implements MatchResult {
             }
         }
         next = to + 1;
+        hitEnd = true;
         places = null;
         return false;
     }

@@ -315,6 +315,7 @@ public final class Pattern implements java.io.Serializable {
     /** What stands behind a place: from no place further off than is matched at most. */
     private Part behind(int kind, Part body) {
         if (body.longest == ENDLESS) {
+            at--;
             throw wrong("Look-behind group does not have an obvious maximum length");
         }
         Node n = new Node(kind);
