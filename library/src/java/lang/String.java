@@ -266,6 +266,9 @@ public final class String implements java.io.Serializable, Comparable<String>, C
     }
 
     public String replace(char from, char to) {
+        if (indexOf(from) < 0) {
+            return this;
+        }
         char[] changed = new char[value.length];
         for (int i = 0; i < value.length; i++) {
             changed[i] = value[i] == from ? to : value[i];
@@ -366,8 +369,15 @@ public final class String implements java.io.Serializable, Comparable<String>, C
     }
 
     public String toLowerCase() {
-        char[] changed = new char[value.length];
-        for (int i = 0; i < value.length; i++) {
+        int i = 0;
+        while (i < value.length && Character.toLowerCase(value[i]) == value[i]) {
+            i++;
+        }
+        if (i == value.length) {
+            return this;
+        }
+        char[] changed = toCharArray();
+        for (; i < value.length; i++) {
             changed[i] = Character.toLowerCase(value[i]);
         }
         return of(changed);
