@@ -60,17 +60,17 @@ impl Sink for Counted {
     }
 }
 
-/// Words, how many bytes the report has, and how many texts are told with the errors.
-static NUMBERS: [(&str, usize, usize); 4] = [
-    ("jvhost check any", 14, 0),
-    ("jvhost run --raw 1 folder", 0, 1),
-    ("jvhost run --stdin 2 folder", 0, 1),
-    ("jvhost run --rounds 0 folder", 0, 1),
+/// Words, how many bytes are written on the output and with the errors, and how many texts are told with the errors.
+static NUMBERS: [(&str, usize, usize, usize); 4] = [
+    ("jvhost check any", 14, 0, 0),
+    ("jvhost run --raw 1 folder", 0, 82, 0),
+    ("jvhost run --stdin 2 folder", 0, 0, 1),
+    ("jvhost run --rounds 0 folder", 0, 0, 1),
 ];
 
 /// Whether so much is written and told where no write fails.
 fn tells_all(alloc: Global, state: RandomState) -> bool {
-    for (line, bytes, told) in &NUMBERS {
+    for (line, bytes, beside, told) in &NUMBERS {
         let Ok(words) = words_of(alloc, *line) else {
             return false;
         };
@@ -87,7 +87,7 @@ fn tells_all(alloc: Global, state: RandomState) -> bool {
             &mut out,
             &mut err,
         );
-        if out.bytes != *bytes || out.told != 0 || err.bytes != 0 || err.told != *told {
+        if out.bytes != *bytes || out.told != 0 || err.bytes != *beside || err.told != *told {
             return false;
         }
     }

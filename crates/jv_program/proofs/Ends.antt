@@ -1,5 +1,5 @@
 -- How the program ends.
-use Rattle.std.proofs.Common.{◌≡◌, ◌≢◌, ◌⊎◌, ◌++◌, ℕ, Bool, true, false, List, Option, None, Result, Ok, Err, refl, sym, subst, ◌∙◌, inl, inr}
+use Rattle.std.proofs.Common.{◌≡◌, ◌≢◌, ◌⊎◌, ℕ, Bool, true, false, List, [], Option, None, Result, Ok, Err, refl, sym, subst, ◌∙◌, inl, inr, append-nil}
 use Rattle.std.specs.Prelude.{IfErr, IfOk, IsErrAnd, IsOk, IsTrue, OnErr, OnOk}
 use Rattle.std.specs.Io.KnownBytes.{Appends}
 use Rattle.std.proofs.KnownBytes.{Appends-trans}
@@ -22,7 +22,7 @@ use Rattle.jv_program_words.specs.Settings.{AskFor, AskForHelp, AreRefused}
 use Rattle.jv_program.specs.Command.{AreWrong, AskForCompany, HasEnded, IsReport, IsToldBeside, settings_of, streams}
 use Rattle.jv_program.specs.Inside.Stops.{IsCarriedOut, IsEarly}
 use Rattle.jv_program.specs.Status.{HasStatus, IsAsked, IsStatusOf, output_line}
-use Rattle.jv_program.specs.Written.{WritesCut, beside_of, shown_of}
+use Rattle.jv_program.specs.Written.{WritesCut, WritesFront, beside_of, shown_of}
 use Rattle.jv_program.specs.declared.stop.Stop.{Stop}
 use Rattle.jv_program.specs.declared.stop.Stop.TheVariants.{CommandLine, Run, Output}
 
@@ -59,12 +59,19 @@ help_asked line error (inr nothing) (inl help) = let none : kinds.ValueValidatio
 help_asked line error (inr nothing) (inr version) =
     let none : kinds.ValueValidation ≡ kinds.DisplayVersion = sym nothing.1 ∙ version in cc
 
+-- what was written whole or cut is a front
+pub front_of : {T E : Type 0} (old new : Option (List ℕ)) (text : List ℕ) (result : Result T E) → OnOk result (Appends old new text)
+    → OnErr result (WritesCut old new text) → WritesFront old new text
+front_of old new text (Ok t) whole cut = (text, [], sym (append-nil text), whole)
+front_of old new text (Err e) whole cut = (cut.0, cut.1, cut.3, cut.4)
+
 -- what was told: nothing on the output, but where words ask for it; and with the errors the line of a failure, or of an output that is lost
 pub record IsToldOf (sure : Bool) (mid new e0 e1 : Option (List ℕ)) (stop : Stop) : Type 0 where
   pub quiet : (IsAsked stop → ⊥) → new ≡ mid
   pub calm : IsAsked stop → e1 ≡ e0
   pub failure : (failure : Failure) → stop ≡ Run failure → IsTrue sure → Appends e0 e1 (failure_line failure)
   pub output : stop ≡ Output → IsTrue sure → Appends e0 e1 output_line
+  pub front : stop ≡ Output → WritesFront e0 e1 output_line
 
 on_ok : {T E P : Type 0} (result : Result T E) → OnOk result P → IsOk result → P
 on_ok (Ok t) p ok = p
@@ -74,12 +81,13 @@ on_ok (Err e) p ok = absurd (cc)
 pub told_of : {T E : Type 0} (sure : Bool) (mid new e0 e1 told : Option (List ℕ)) (stop : Stop) (result : Result T E) → e1 ≡ told
     → ((IsAsked stop → ⊥) → new ≡ mid) → (IsAsked stop → told ≡ e0)
     → ((failure : Failure) → stop ≡ Run failure → OnOk result (Appends e0 told (failure_line failure))) → (stop ≡ Output → OnOk result (Appends e0 told output_line))
-    → ((IsAsked stop → ⊥) → IsTrue sure → IsOk result) → IsToldOf sure mid new e0 e1 stop
-told_of sure mid new e0 e1 told stop result same quiet calm failure output is_sure = record {
+    → ((IsAsked stop → ⊥) → IsTrue sure → IsOk result) → (stop ≡ Output → WritesFront e0 told output_line) → IsToldOf sure mid new e0 e1 stop
+told_of sure mid new e0 e1 told stop result same quiet calm failure output is_sure front = record {
   quiet = quiet;
   calm = λ asked. same ∙ calm asked;
   failure = λ f e yes. subst (λ e2. Appends e0 e2 (failure_line f)) (sym same) (on_ok result (failure f e) (is_sure (λ h. subst IsAsked e h) yes));
   output = λ e yes. subst (λ e2. Appends e0 e2 output_line) (sym same) (on_ok result (output e) (is_sure (λ h. subst IsAsked e h) yes));
+  front = λ e. subst (λ e2. WritesFront e0 e2 output_line) (sym same) (front e);
 }
 
 abbrev pub IsToldAfter : Bool → Option (List ℕ) → Option (List ℕ) → Option (List ℕ) → Option (List ℕ) → Result Outcome Stop → Type 0
@@ -123,6 +131,8 @@ stopped disk so se line b0 b1 old mid new e0 e1 e2 Output status done told is =
       front = subst (λ (o : Option (List ℕ)). WritesCut old o (shown_of done.0)) (sym same) done.2;
       unsure = done.3;
       told = λ yes. Appends-trans e0 e1 e2 (beside_of done.0) output_line (done.4.told yes) (told.output refl yes);
+      between = e1;
+      fronts = (done.4.front, told.front refl);
       ends = is;
     }))
 
@@ -145,15 +155,15 @@ not_sure true result stop is sure = absurd (let no = subst IsOk is (sure refl) i
 
 -- what goes to the output is written, and the report told before where it has no place there
 pub written : (disk : Option Disk) (so se : Bool) (line : List (List ℕ)) (b0 b1 old new e0 e1 : Option (List ℕ)) (outcome : Outcome) (result : Result Outcome Stop)
-    → IsReport disk line b0 b1 outcome → (IsTrue se → Appends e0 e1 (beside_of outcome)) → (outcome.raw ≡ None → e1 ≡ e0)
+    → IsReport disk line b0 b1 outcome → (IsTrue se → Appends e0 e1 (beside_of outcome)) → WritesFront e0 e1 (beside_of outcome) → (outcome.raw ≡ None → e1 ≡ e0)
     → OnOk result (Appends old new (shown_of outcome)) → IfOk result (λ w. w ≡ outcome) → OnErr result (WritesCut old new (shown_of outcome))
     → IfErr result (λ stop. stop ≡ Output) → (IsTrue so → IsOk result) → IsCarriedOut disk so se line (streams b0 old e0) (streams b1 new e1) result
-written disk so se line b0 b1 old new e0 e1 outcome (Ok w) report told quiet whole same cut lost sure =
-    let beside : IsToldBeside se (streams b0 old e0) (streams b1 new e1) outcome = record { told = told; quiet = quiet } in
+written disk so se line b0 b1 old new e0 e1 outcome (Ok w) report told front quiet whole same cut lost sure =
+    let beside : IsToldBeside se (streams b0 old e0) (streams b1 new e1) outcome = record { told = told; front = front; quiet = quiet } in
     subst (λ (o : Outcome). IsReport disk line b0 b1 o × Appends old new (shown_of o) × IsToldBeside se (streams b0 old e0) (streams b1 new e1) o) (sym same)
     (report, whole, beside)
-written disk so se line b0 b1 old new e0 e1 outcome (Err stop) report told quiet whole same cut lost sure =
-    let beside : IsToldBeside se (streams b0 old e0) (streams b1 new e1) outcome = record { told = told; quiet = quiet } in
+written disk so se line b0 b1 old new e0 e1 outcome (Err stop) report told front quiet whole same cut lost sure =
+    let beside : IsToldBeside se (streams b0 old e0) (streams b1 new e1) outcome = record { told = told; front = front; quiet = quiet } in
     subst (λ (s : Stop). IsCarriedOut disk so se line (streams b0 old e0) (streams b1 new e1) (Err s)) (sym lost)
     (outcome, report, cut, not_sure so (Err stop) stop refl sure, beside)
 
@@ -168,6 +178,7 @@ ended disk so se line b0 b1 old mid new e0 e1 e2 (Ok outcome) status done told i
       written = subst (λ (o : Option (List ℕ)). Appends old o (shown_of outcome)) (sym told.0) done.1;
       beside = record {
         told = λ yes. subst (λ e. Appends e0 e (beside_of outcome)) (sym told.1) (done.2.told yes);
+        front = subst (λ e. WritesFront e0 e (beside_of outcome)) (sym told.1) done.2.front;
         quiet = λ none. told.1 ∙ done.2.quiet none;
       };
       ends = is;

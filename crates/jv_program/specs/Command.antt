@@ -19,7 +19,7 @@ use Rattle.jv_program_words.specs.declared.asked.RunOptions.{RunOptions}
 use Rattle.jv_program_words.specs.Settings.{AskFor, AskForHelp, AreRefused}
 use Rattle.jv_program_words.specs.Settings.Asked.{run, check, explain}
 use Rattle.jv_program.specs.Status.{output_line}
-use Rattle.jv_program.specs.Written.{WritesCut, beside_of, shown_of}
+use Rattle.jv_program.specs.Written.{WritesCut, WritesFront, beside_of, shown_of}
 
 -- the settings with these options
 abbrev pub settings_of : RunOptions → RunSettings
@@ -142,9 +142,11 @@ streams input output errors = record { input = input; output = output; errors = 
 abbrev pub IsTold : (sure : Bool) → (before after : Streams) → (line : List ℕ) → Type 0
 IsTold sure before after line = IsTrue sure → Appends before.errors after.errors line
 
--- a report is told with the errors where what a guest wrote takes its place on the output; else nothing is told
+-- a report is told with the errors where what a guest wrote takes its place on the output, whole or, where a write fails, its front; else
+-- nothing is told
 pub record IsToldBeside (sure : Bool) (before after : Streams) (outcome : Outcome) : Type 0 where
   pub told : IsTold sure before after (beside_of outcome)
+  pub front : WritesFront before.errors after.errors (beside_of outcome)
   pub quiet : outcome.raw ≡ None → after.errors ≡ before.errors
 
 -- what goes to the output was written whole, behind what was on it
@@ -156,7 +158,7 @@ pub record IsReported (disk : Option Disk) (sure_errors : Bool) (line : List (Li
   pub ends : status ≡ outcome.status
 
 -- what goes to the output was cut, where a write may fail: its front was written, and nothing else, and that is told, behind the report
--- where what a guest wrote takes its place
+-- where what a guest wrote takes its place, each whole or its front
 pub record IsCut (disk : Option Disk) (sure_output sure_errors : Bool) (line : List (List ℕ)) (before after : Streams) (status : ℕ)
     : Type 0 where
   pub outcome : Outcome
@@ -164,6 +166,8 @@ pub record IsCut (disk : Option Disk) (sure_output sure_errors : Bool) (line : L
   pub front : WritesCut before.output after.output (shown_of outcome)
   pub unsure : sure_output ≡ false
   pub told : IsTold sure_errors before after (beside_of outcome ++ output_line)
+  pub between : Option (List ℕ)
+  pub fronts : WritesFront before.errors between (beside_of outcome) × WritesFront between after.errors output_line
   pub ends : status ≡ 6
 
 -- there is a failure, which is told, and its status

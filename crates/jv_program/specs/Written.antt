@@ -19,3 +19,7 @@ beside_of outcome = beside (raw_bytes outcome) (string_bytes outcome.report)
 -- the front of a text was written, which may be none of it and is not all, and nothing else
 abbrev pub WritesCut : Option (List ℕ) → Option (List ℕ) → List ℕ → Type 0
 WritesCut old new text = (front : List ℕ) × (rest : List ℕ) × (rest ≢ []) × (text ≡ front ++ rest) × Appends old new front
+
+-- a text was written, whole or its front, and nothing else
+abbrev pub WritesFront : Option (List ℕ) → Option (List ℕ) → List ℕ → Type 0
+WritesFront old new text = (front : List ℕ) × (rest : List ℕ) × (text ≡ front ++ rest) × Appends old new front

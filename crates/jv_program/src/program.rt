@@ -12,12 +12,13 @@ ghost use Rattle.jv_program_run.specs.Named.{AreTaken, IsRunAs, IsRunFailure};
 ghost use Rattle.jv_program.specs.Command.{AskForCompany, HasEnded, IsBegun, IsReport, explain_settings_of, settings_of, streams};
 ghost use Rattle.jv_program.specs.Inside.Stops.{IsCarriedOut, IsEarly};
 ghost use Rattle.jv_program.specs.Status.{IsAsked, output_line};
+ghost use Rattle.jv_program.specs.Written.{WritesFront};
 ghost use Rattle.jv_program.specs.declared.stop.Stop.TheVariants.{Output, Run};
 
 use crate::progress::Company;
 use crate::sink::{Lost, Sink};
 use crate::stop::{Stop, status_of, stop_of};
-use crate::written::{tell_beside, write_report};
+use crate::written::{tell_beside, write_bytes, write_report};
 use jv_program_base::{Failure, Folders, Outcome};
 use jv_program_check::check_named;
 use jv_program_explain::{ExplainSettings, explain_named};
@@ -198,6 +199,7 @@ pub fn tell<O: Sink, E: Sink>(stop: &Stop, out: &mut O, err: &mut E) -> Result<(
         → OnOk result (Appends (E.contents err.old) (E.contents err.new) (failure_line failure)) }
     ensures output { stop.now ≡ Output
         → OnOk result (Appends (E.contents err.old) (E.contents err.new) output_line) }
+    ensures front { stop.now ≡ Output → WritesFront (E.contents err.old) (E.contents err.new) output_line }
     ensures sure { (IsAsked stop.now → ⊥) → IsTrue E.SURE → IsOk result }
 {
     match stop {
@@ -209,7 +211,7 @@ pub fn tell<O: Sink, E: Sink>(stop: &Stop, out: &mut O, err: &mut E) -> Result<(
             }
         }
         Stop::Run(failure) => err.tell(failure),
-        Stop::Output => err.tell("jvhost: output\n"),
+        Stop::Output => write_bytes(err, b"jvhost: output\n"),
     }
 }
 

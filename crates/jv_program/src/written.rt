@@ -1,7 +1,7 @@
 //! What is written on standard output, and beside it.
 ghost use Rattle.std.specs.Prelude.{◌≡◌, IfErr, IfOk, IsOk, IsTrue, None, OnErr, OnOk};
 ghost use Rattle.std.specs.Io.KnownBytes.{Appends};
-ghost use Rattle.jv_program.specs.Written.{WritesCut, beside_of, shown_of};
+ghost use Rattle.jv_program.specs.Written.{WritesCut, WritesFront, beside_of, shown_of};
 ghost use Rattle.jv_program.specs.declared.stop.Stop.TheVariants.{Output};
 
 use crate::sink::{Lost, Sink};
@@ -9,7 +9,7 @@ use crate::stop::Stop;
 use jv_program_base::Outcome;
 
 /// Writes bytes, or fails where a write fails or takes none of them; what was written is then a front of them, and not all.
-fn write_bytes<O: Sink>(to: &mut O, bytes: &[u8]) -> Result<(), Lost>
+pub(crate) fn write_bytes<O: Sink>(to: &mut O, bytes: &[u8]) -> Result<(), Lost>
     ensures whole { OnOk result (Appends (O.contents to.old) (O.contents to.new) bytes.now) }
     ensures cut { OnErr result (WritesCut (O.contents to.old) (O.contents to.new) bytes.now) }
     ensures sure { IsTrue O.SURE → IsOk result }
@@ -38,10 +38,11 @@ fn shown_of(outcome: &Outcome) -> &[u8]
 /// Tells the report with the errors, where what a guest wrote goes to the output in its place.
 pub(crate) fn tell_beside<E: Sink>(err: &mut E, outcome: &Outcome)
     ensures told { IsTrue E.SURE → Appends (E.contents err.old) (E.contents err.new) (beside_of outcome.now) }
+    ensures front { WritesFront (E.contents err.old) (E.contents err.new) (beside_of outcome.now) }
     ensures quiet { outcome.now.raw ≡ None → err.new ≡ err.old }
 {
     if outcome.raw.is_some() {
-        let _ = err.tell(outcome.report.as_str());
+        let _ = write_bytes(err, outcome.report.as_bytes());
     }
 }
 
