@@ -16,6 +16,7 @@ use crate::attributes::{
 };
 use crate::flags::{FieldFlags, MethodFlags};
 use crate::member::{Field, Method, MethodCode, PackedCode};
+use bitflags::Flags;
 use jv_format::{ExceptionTable, bytes_at, half_at};
 use jv_pool::{Pool, Utf8Index};
 
@@ -40,7 +41,7 @@ pub fn three_at(bytes: &[u8]) -> Option<((u16, u16, u16), &[u8])>
 fn is_static(flags: u16) -> bool
     ensures { result ≡ has flags acc_static }
 {
-    flags & 0x0008 != 0
+    FieldFlags(flags).intersects(FieldFlags::STATIC)
 }
 
 /// The value that the attributes at the front tell of a field with these flags, and what follows.

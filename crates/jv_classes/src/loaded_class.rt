@@ -17,18 +17,13 @@ use crate::member::Member;
 use crate::package::is_same_loader;
 use crate::reading::{interface_in, kept_of_file};
 use crate::text::Text;
+use bitflags::Flags;
 use jv_class::{ClassFile, is_some_class};
+use jv_class_structure::ClassFlags;
 use std::alloc::{AllocError, Global};
 use std::hash::RandomState;
 use std::marker::Model;
 use std::sync::Arc;
-
-// The access flags that are asked for here (JVMS table 4.1-A).
-const PUBLIC: u16 = 0x0001;
-
-const FINAL: u16 = 0x0010;
-
-const INTERFACE: u16 = 0x0200;
 
 /// What was read of a class: its file, and what is kept beside it.
 #[derive(Drop)]
@@ -304,14 +299,14 @@ impl<'a> LoadedClass<'a> {
     pub fn is_interface(&self) -> bool
         ensures { result ≡ is_interface self.now }
     {
-        self.access_flags() & INTERFACE != 0
+        ClassFlags(self.access_flags()).intersects(ClassFlags::INTERFACE)
     }
 
     /// Whether the class is final.
     pub fn is_final(&self) -> bool
         ensures { result ≡ has self.now.class.access_flags acc_final }
     {
-        self.access_flags() & FINAL != 0
+        ClassFlags(self.access_flags()).intersects(ClassFlags::FINAL)
     }
 
     /// The name of the class's package, nothing where it has none (JVMS 4.2.1).
@@ -332,6 +327,6 @@ impl<'a> LoadedClass<'a> {
     pub fn can_name(&self, to: &LoadedClass<'_>) -> bool
         ensures { result ≡ can_name self.now to.now }
     {
-        to.access_flags() & PUBLIC != 0 || self.same_package(to)
+        ClassFlags(to.access_flags()).intersects(ClassFlags::PUBLIC) || self.same_package(to)
     }
 }

@@ -9,23 +9,19 @@ ghost use Rattle.jv_meaning_world.specs.Verdicts.{declared_by, is_final_instance
 ghost use Rattle.jv_explain.specs.Finals.{breaks_itself, broken_among, broken_in, broken_text, finals_text};
 ghost use Rattle.jv_explain.specs.Inside.Overridden.{as_method, overridden_line, overridden_text};
 
+use bitflags::Flags;
+use jv_class_structure::MethodFlags;
 use jv_classes::{LoadedClass, Member};
 use jv_loader::{ClassTable, LoadVerdict};
 use jv_program_base::Escaped;
 use std::alloc::{AllocError, Global};
 use std::fmt;
 
-const PRIVATE: u16 = 0x0002;
-
-const STATIC: u16 = 0x0008;
-
-const FINAL: u16 = 0x0010;
-
 // public and protected
-const OPEN: u16 = 0x0005;
+const OPEN: MethodFlags = MethodFlags(0x0005);
 
 // public, private and protected
-const SOME_ACCESS: u16 = 0x0007;
+const SOME_ACCESS: MethodFlags = MethodFlags(0x0007);
 
 /// A final method of a superclass that is overridden, with the name of that class.
 #[derive(Clone, Copy)]
@@ -52,14 +48,15 @@ impl fmt::Display for Overridden<'_> {
 fn is_instance(method: &Member<'_>) -> bool
     ensures { result ≡ is_instance (as_method method.now) }
 {
-    method.access_flags & STATIC == 0 && method.name != b"<init>".as_slice()
+    !MethodFlags(method.access_flags).intersects(MethodFlags::STATIC)
+        && method.name != b"<init>".as_slice()
 }
 
 /// Whether it is a final instance method.
 fn is_final_instance(method: &Member<'_>) -> bool
     ensures { result ≡ is_final_instance (as_method method.now) }
 {
-    method.access_flags & FINAL != 0 && is_instance(method)
+    MethodFlags(method.access_flags).intersects(MethodFlags::FINAL) && is_instance(method)
 }
 
 /// Whether a method of a class overrides one of a superclass itself, which has its name and descriptor.
@@ -71,9 +68,9 @@ fn overrides_itself(
 ) -> bool
     ensures { result ≡ overrides_itself (declared_by own.now (as_method method.now)) (declared_by of.now (as_method other.now)) }
 {
-    method.access_flags & PRIVATE == 0
-        && (other.access_flags & OPEN != 0
-            || (other.access_flags & SOME_ACCESS == 0 && own.same_package(of)))
+    !MethodFlags(method.access_flags).intersects(MethodFlags::PRIVATE)
+        && (MethodFlags(other.access_flags).intersects(OPEN)
+            || (!MethodFlags(other.access_flags).intersects(SOME_ACCESS) && own.same_package(of)))
 }
 
 /// Whether the method at a place of a superclass is final, and the class overrides it itself.

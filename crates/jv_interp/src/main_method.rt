@@ -11,14 +11,11 @@ ghost use Rattle.jv_lookups.specs.Places.{method_at, method_of, IsMethodPlace, I
 ghost use Rattle.jv_interp_words.specs.FramesInWords.{methods_of};
 ghost use Rattle.jv_interp_members.specs.Methods.{AreMethods};
 
+use bitflags::Flags;
+use jv_class_structure::MethodFlags;
 use jv_interp_members::Methods;
 use jv_link::class_at;
 use jv_loader::{ClassTable, Classes, LoadedClass, Place};
-
-// Access flags of methods (JVMS table 4.6-A).
-const PUBLIC: u16 = 0x0001;
-
-const STATIC: u16 = 0x0008;
 
 /// Whether the method at a place of a class is public and static.
 fn is_main(class: &LoadedClass<'_>, member: usize) -> bool
@@ -26,7 +23,8 @@ fn is_main(class: &LoadedClass<'_>, member: usize) -> bool
     ensures { IsSomeAnd (slice_get class.now.class.methods member) (λ m. result ≡ is_main (declared_by class.now m)) }
 {
     let flags = class.method(member).access_flags;
-    flags & PUBLIC != 0 && flags & STATIC != 0
+    MethodFlags(flags).intersects(MethodFlags::PUBLIC)
+        && MethodFlags(flags).intersects(MethodFlags::STATIC)
 }
 
 /// The place of main among the methods of a class, where it is public and static.

@@ -53,9 +53,9 @@ behind_all world old new place d ds wide at fields words is laid = record {
 pub laid_more : (world : World) (old new : Layout) (place : Place) (d : DeclaredField) (ds : List DeclaredField) (wide : Bool) (flags : ℕ) →
     field_at world place ≡ Some d → new.fields.items ≡ old.fields.items ++ placed_field place old.words ∷ []
     → new.words ≡ old.words + (if wide then 2 else 1) → wide ≡ bytes_eq d.field.descriptor (codes "J") → flags ≡ d.field.access_flags →
-    bit_and flags 8 ≡ 0 → IsLaid world old ds → IsLaid world new (ds ++ own_field d)
+    not (bit_and flags 8 == 0) ≡ false → IsLaid world old ds → IsLaid world new (ds ++ own_field d)
 laid_more world old new place d ds wide flags at fields words is same none laid =
-    subst (λ b. IsLaid world new (ds ++ (if b then [] else d ∷ []))) (ap (λ n. not (n == 0)) (sym none) ∙ ap (λ n. not (bit_and n 8 == 0)) same)
+    subst (λ b. IsLaid world new (ds ++ (if b then [] else d ∷ []))) (sym none ∙ ap (λ n. not (bit_and n 8 == 0)) same)
     (behind_all world old new place d ds wide at fields words is laid)
 
 -- ---- all fields of a class

@@ -8,16 +8,9 @@ ghost use Rattle.jv_link.specs.Inside.Steps.{IsAccessibleBelow};
 
 use crate::class::same_class;
 use crate::member::class_at;
+use bitflags::Flags;
+use jv_class_structure::MethodFlags;
 use jv_loader::ClassTable;
-
-// Access flags of fields and methods (JVMS tables 4.5-A, 4.6-A).
-const PUBLIC: u16 = 0x0001;
-
-const PRIVATE: u16 = 0x0002;
-
-const PROTECTED: u16 = 0x0004;
-
-const STATIC: u16 = 0x0008;
 
 /// Whether two classes are in one run-time package (JVMS 5.3).
 pub fn same_package(table: &ClassTable<'_>, one: usize, other: usize) -> bool
@@ -50,7 +43,8 @@ fn is_accessible_below(
     requires by { by < length table.now }
     ensures { IsAccessibleBelow table.now current named by flags result }
 {
-    table.is_subclass(current, by) && (flags & STATIC != 0 || in_line(table, named, current))
+    table.is_subclass(current, by)
+        && (MethodFlags(flags).intersects(MethodFlags::STATIC) || in_line(table, named, current))
 }
 
 /// Whether the current class can access a member with these flags that a class declares, by way of the
@@ -67,12 +61,13 @@ pub(crate) fn can_access(
     requires by { by < length table.now }
     ensures { HoldsAtBoth table.now current named (λ c n. HoldsAtNumber table.now by (λ l. result ≡ can_access table.now c n l flags)) }
 {
-    if flags & PUBLIC != 0 {
+    if MethodFlags(flags).intersects(MethodFlags::PUBLIC) {
         true
-    } else if flags & PRIVATE != 0 {
+    } else if MethodFlags(flags).intersects(MethodFlags::PRIVATE) {
         same_class(table, current, by)
     } else {
         same_package(table, current, by)
-            || (flags & PROTECTED != 0 && is_accessible_below(table, current, named, by, flags))
+            || (MethodFlags(flags).intersects(MethodFlags::PROTECTED)
+                && is_accessible_below(table, current, named, by, flags))
     }
 }

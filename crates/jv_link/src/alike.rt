@@ -11,20 +11,13 @@ ghost use Rattle.jv_meaning_typing.specs.Inside.Upward.{is_private};
 ghost use Rattle.jv_link.specs.Inside.Called.{method_named_as, AreMarksAs};
 
 use crate::member::{class_at, descriptor_of_method, method_at, name_of_method};
+use bitflags::Flags;
+use jv_class_structure::MethodFlags;
 use jv_classes::KeyRow;
 use jv_loader::{ClassTable, Place};
 use jv_text::is_init;
 
-// Access flags of methods (JVMS table 4.6-A).
-const PUBLIC: u16 = 0x0001;
-
-const PRIVATE: u16 = 0x0002;
-
-const PUBLIC_OR_PROTECTED: u16 = 0x0005;
-
-const STATIC: u16 = 0x0008;
-
-const ABSTRACT: u16 = 0x0400;
+const PUBLIC_OR_PROTECTED: MethodFlags = MethodFlags(0x0005);
 
 /// Whether a method is an instance method other than `<init>`.
 pub(crate) fn is_instance(table: &ClassTable<'_>, place: Place) -> bool
@@ -32,7 +25,7 @@ pub(crate) fn is_instance(table: &ClassTable<'_>, place: Place) -> bool
     ensures { (d : Declared) → method_at table.now place ≡ Some d → result ≡ is_instance d.method }
 {
     let method = method_at(table, place);
-    method.access_flags & STATIC == 0 && !is_init(method.name)
+    !MethodFlags(method.access_flags).intersects(MethodFlags::STATIC) && !is_init(method.name)
 }
 
 /// Whether a method is public.
@@ -40,7 +33,7 @@ pub(crate) fn is_public(table: &ClassTable<'_>, place: Place) -> bool
     requires { IsMethodPlace table.now place }
     ensures { (d : Declared) → method_at table.now place ≡ Some d → result ≡ has d.method.access_flags acc_public }
 {
-    method_at(table, place).access_flags & PUBLIC != 0
+    MethodFlags(method_at(table, place).access_flags).intersects(MethodFlags::PUBLIC)
 }
 
 /// Whether a method is private.
@@ -48,7 +41,7 @@ pub(crate) fn is_private(table: &ClassTable<'_>, place: Place) -> bool
     requires { IsMethodPlace table.now place }
     ensures { (d : Declared) → method_at table.now place ≡ Some d → result ≡ is_private d }
 {
-    method_at(table, place).access_flags & PRIVATE != 0
+    MethodFlags(method_at(table, place).access_flags).intersects(MethodFlags::PRIVATE)
 }
 
 /// Whether a method is public or protected.
@@ -56,7 +49,7 @@ pub(crate) fn is_open(table: &ClassTable<'_>, place: Place) -> bool
     requires { IsMethodPlace table.now place }
     ensures { (d : Declared) → method_at table.now place ≡ Some d → result ≡ is_open d }
 {
-    method_at(table, place).access_flags & PUBLIC_OR_PROTECTED != 0
+    MethodFlags(method_at(table, place).access_flags).intersects(PUBLIC_OR_PROTECTED)
 }
 
 /// Whether a method is not abstract.
@@ -64,7 +57,7 @@ pub(crate) fn is_concrete(table: &ClassTable<'_>, place: Place) -> bool
     requires { IsMethodPlace table.now place }
     ensures { (d : Declared) → method_at table.now place ≡ Some d → result ≡ is_concrete d }
 {
-    method_at(table, place).access_flags & ABSTRACT == 0
+    !MethodFlags(method_at(table, place).access_flags).intersects(MethodFlags::ABSTRACT)
 }
 
 /// The method of a class with the name and the descriptor of another. No text is hashed.

@@ -18,10 +18,12 @@ use crate::member::class_at;
 use crate::reference::class_text;
 use crate::site::{Site, Use};
 use crate::target::ClassRef;
+use bitflags::Flags;
+use jv_class_structure::ClassFlags;
 use jv_loader::{ClassTable, Classes, LoadVerdict};
 use jv_text::{Element, FieldType, field_type, is_array_name, types_agree};
 
-const INTERFACE_OR_ABSTRACT: u16 = 0x0600;
+const INTERFACE_OR_ABSTRACT: ClassFlags = ClassFlags(0x0600);
 
 /// Whether two numbers are those of one class.
 pub fn same_class(table: &ClassTable<'_>, one: usize, other: usize) -> bool
@@ -151,7 +153,9 @@ fn creatable<'n>(table: &ClassTable<'_>, found: ClassRef<'n>) -> Result<ClassRef
 {
     match found {
         ClassRef::Class(number) => {
-            if class_at(table, number).access_flags() & INTERFACE_OR_ABSTRACT != 0 {
+            if ClassFlags(class_at(table, number).access_flags()).intersects(
+                INTERFACE_OR_ABSTRACT,
+            ) {
                 return Err(LinkError::InstantiationError);
             }
             Ok(found)

@@ -18,16 +18,13 @@ use crate::error::LinkError;
 use crate::member::{field_at, method_at};
 use crate::site::{Site, Use};
 use crate::target::MethodTarget;
+use bitflags::Flags;
 use jv_class::is_clinit;
+use jv_class_structure::{FieldFlags, MethodFlags};
 use jv_loader::{ClassTable, Place};
 use jv_text::is_init;
 
-// Access flags of fields and methods (JVMS tables 4.5-A, 4.6-A).
-const STATIC: u16 = 0x0008;
-
-const FINAL: u16 = 0x0010;
-
-const STATIC_OR_PRIVATE: u16 = 0x000a;
+const STATIC_OR_PRIVATE: MethodFlags = MethodFlags(0x000a);
 
 /// Whether an instruction uses a field of this kind, static or not.
 #[inline(always)]
@@ -35,8 +32,8 @@ fn has_field_kind(how: Use, flags: u16) -> bool
     ensures { (f : Field) → flags ≡ f.access_flags → result ≡ has_field_kind (seen_use how) f }
 {
     match how {
-        Use::Getstatic | Use::Putstatic => flags & STATIC != 0,
-        Use::Getfield | Use::Putfield => flags & STATIC == 0,
+        Use::Getstatic | Use::Putstatic => FieldFlags(flags).intersects(FieldFlags::STATIC),
+        Use::Getfield | Use::Putfield => !FieldFlags(flags).intersects(FieldFlags::STATIC),
         _ => true,
     }
 }
@@ -47,9 +44,11 @@ fn has_method_kind(how: Use, flags: u16) -> bool
     ensures { (m : Method) → flags ≡ m.access_flags → result ≡ has_method_kind (seen_use how) m }
 {
     match how {
-        Use::Invokestatic => flags & STATIC != 0,
-        Use::Invokevirtual | Use::Invokespecial => flags & STATIC == 0,
-        Use::Invokeinterface => flags & STATIC_OR_PRIVATE == 0,
+        Use::Invokestatic => MethodFlags(flags).intersects(MethodFlags::STATIC),
+        Use::Invokevirtual | Use::Invokespecial => !MethodFlags(flags).intersects(
+            MethodFlags::STATIC,
+        ),
+        Use::Invokeinterface => !MethodFlags(flags).intersects(STATIC_OR_PRIVATE),
         _ => true,
     }
 }
@@ -87,7 +86,7 @@ fn can_use_final(table: &ClassTable<'_>, how: Use, site: Site, by: usize, flags:
     requires by { by < length table.now }
     ensures { CanUseFinal table.now site how by flags result }
 {
-    flags & FINAL == 0 || can_set_final(table, how, site, by)
+    !FieldFlags(flags).intersects(FieldFlags::FINAL) || can_set_final(table, how, site, by)
 }
 
 /// A field with these access flags, where it is of the instruction's kind, and not final where the instruction can't set it

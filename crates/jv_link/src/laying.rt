@@ -10,10 +10,10 @@ ghost use Rattle.jv_link.specs.Layouts.{IsLaid, LaysField, LaysFields, IsLayoutO
 
 use crate::layout::{Layout, add_field};
 use crate::member::{class_at, field_at};
+use bitflags::Flags;
+use jv_class_structure::FieldFlags;
 use jv_loader::{ClassTable, Classes, OutOfMemory, Place};
 use std::alloc::{AllocError, Global};
-
-const STATIC: u16 = 0x0008;
 
 /// Whether a field of this type takes two words.
 fn is_long(descriptor: &[u8]) -> bool
@@ -34,7 +34,7 @@ fn add_own_field(
     ensures bound { layout.new.words ≤ 2 * vec_len layout.new.fields }
 {
     let field = field_at(table, place);
-    if field.access_flags & STATIC != 0 {
+    if FieldFlags(field.access_flags).intersects(FieldFlags::STATIC) {
         return Ok(());
     }
     add_field(layout, place, is_long(field.descriptor))?;

@@ -12,17 +12,19 @@ ghost use Rattle.jv_link.specs.Inside.Enumerating.{superclass_first, OrdersOne, 
 
 use crate::giving::enumerated;
 use crate::member::{class_at, method_at};
+use bitflags::Flags;
+use jv_class_structure::MethodFlags;
 use jv_loader::{ClassTable, Classes, OutOfMemory, Place};
 use std::alloc::{AllocError, Global};
 
-const STATIC_OR_ABSTRACT: u16 = 0x0408;
+const STATIC_OR_ABSTRACT: MethodFlags = MethodFlags(0x0408);
 
 /// Whether a method is neither static nor abstract.
 fn is_default(table: &ClassTable<'_>, place: Place) -> bool
     requires { IsMethodPlace table.now place }
     ensures { (d : Declared) → method_at table.now place ≡ Some d → result ≡ is_default d.method }
 {
-    method_at(table, place).access_flags & STATIC_OR_ABSTRACT == 0
+    !MethodFlags(method_at(table, place).access_flags).intersects(STATIC_OR_ABSTRACT)
 }
 
 /// Whether a class declares a method that is neither static nor abstract; a private one counts.

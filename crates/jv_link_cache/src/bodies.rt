@@ -9,12 +9,12 @@ ghost use Rattle.jv_meaning_world.specs.Overriding.{Declared};
 ghost use Rattle.jv_lookups.specs.Places.{method_at};
 ghost use Rattle.jv_link_cache.specs.Bodies.{IsArgumentCount, IsBody};
 
+use bitflags::Flags;
 use jv_class::MethodCode;
+use jv_class_structure::MethodFlags;
 use jv_link::class_at;
 use jv_loader::{ClassTable, LoadedClass, Member, Place};
 use jv_text::{method_shape, types_agree};
-
-const STATIC: u16 = 0x0008;
 
 /// The code of a method, and what a call of it passes.
 #[derive(Clone, Copy)]
@@ -45,7 +45,7 @@ pub(crate) fn argument_words(method: &Member<'_>) -> usize
     ensures { (m : Method) → IsMethod method.now m → IsArgumentCount m result }
 {
     types_agree();
-    let receiver = if method.access_flags & STATIC == 0 {
+    let receiver = if !MethodFlags(method.access_flags).intersects(MethodFlags::STATIC) {
         1
     } else {
         0
@@ -68,7 +68,7 @@ fn body_of<'a>(class: &LoadedClass<'a>, member: usize) -> Option<Body<'a>>
     Some(Body {
         code,
         argument_words: argument_words(&method),
-        has_receiver: method.access_flags & STATIC == 0,
+        has_receiver: !MethodFlags(method.access_flags).intersects(MethodFlags::STATIC),
     })
 }
 

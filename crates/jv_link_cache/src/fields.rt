@@ -19,16 +19,13 @@ ghost use Rattle.jv_link_cache.specs.Inside.Rows.{AreRows};
 use crate::field_use::{FieldUse, field_used};
 use crate::rows::{Row, entry_in, keep};
 use crate::words::ClassWords;
+use bitflags::Flags;
+use jv_class_structure::FieldFlags;
 use jv_link::{LinkError, Site, Use, constants_field, usable_with};
 use jv_loader::{ClassTable, Classes};
 
 /// What a Fieldref constant resolves to, where it was asked.
 pub(crate) type FieldEntry = Option<Result<FieldUse, LinkError>>;
-
-// Access flags of fields (JVMS table 4.5-A).
-const STATIC: u16 = 0x0008;
-
-const FINAL: u16 = 0x0010;
 
 /// Whether an instruction uses fields of this kind, static or not.
 #[inline(always)]
@@ -36,8 +33,8 @@ fn is_used_so(how: Use, flags: u16) -> bool
     ensures { (f : Field) → flags ≡ f.access_flags → result ≡ has_field_kind (seen_use how) f }
 {
     match how {
-        Use::Getstatic | Use::Putstatic => flags & STATIC != 0,
-        Use::Getfield | Use::Putfield => flags & STATIC == 0,
+        Use::Getstatic | Use::Putstatic => FieldFlags(flags).intersects(FieldFlags::STATIC),
+        Use::Getfield | Use::Putfield => !FieldFlags(flags).intersects(FieldFlags::STATIC),
         _ => true,
     }
 }
@@ -49,7 +46,7 @@ fn is_settable(how: Use, flags: u16) -> bool
         → can_use_final (seen_use how) s d ≡ true }
 {
     match how {
-        Use::Putstatic | Use::Putfield => flags & FINAL == 0,
+        Use::Putstatic | Use::Putfield => !FieldFlags(flags).intersects(FieldFlags::FINAL),
         _ => true,
     }
 }

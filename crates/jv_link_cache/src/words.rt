@@ -13,11 +13,11 @@ ghost use Rattle.jv_meaning_world.specs.LookUps.{DeclaredField};
 ghost use Rattle.jv_meaning_typing.specs.Layout.{object_words};
 ghost use Rattle.jv_lookups.specs.Places.{field_at};
 
+use bitflags::Flags;
+use jv_class_structure::FieldFlags;
 use jv_link::class_at;
 use jv_loader::{ClassTable, LoadedClass, Member, Place};
 use std::alloc::{AllocError, Global};
-
-const STATIC: u16 = 0x0008;
 
 /// Behind some fields, the next word of an object, and of those of static fields.
 #[derive(Clone, Copy)]
@@ -56,7 +56,7 @@ fn sum(one: usize, other: usize) -> Result<usize, AllocError>
 fn word_in(field: &Member<'_>, ends: Ends) -> usize
     ensures { (f : Field) → IsField field.now f → result ≡ word_in f ends }
 {
-    if field.access_flags & STATIC != 0 {
+    if FieldFlags(field.access_flags).intersects(FieldFlags::STATIC) {
         ends.statics
     } else {
         ends.object
@@ -68,7 +68,7 @@ fn behind(field: &Member<'_>, ends: Ends) -> Result<Ends, AllocError>
     ensures { (f : Field) → IsField field.now f → IfOk result (λ e. e ≡ behind f ends) }
 {
     let width = width(field.descriptor);
-    if field.access_flags & STATIC != 0 {
+    if FieldFlags(field.access_flags).intersects(FieldFlags::STATIC) {
         let statics = sum(ends.statics, width)?;
         Ok(Ends {
             object: ends.object,

@@ -5,6 +5,7 @@
 //! its name and its descriptor. The code of a method returns.
 
 use crate::row::{Row, is_comment, next_word, read_row};
+use bitflags::Flags;
 use jv_asm_builder::{ClassBuilder, ClassFlags, FieldFlags, MethodFlags, Op};
 use std::alloc::Global;
 
@@ -20,8 +21,6 @@ static FLAGS: [(&str, u16); 9] = [
     ("interface", 0x0200),
     ("abstract", 0x0400),
 ];
-
-const ABSTRACT: u16 = 0x0400;
 
 fn flag(name: &str) -> Option<u16> {
     for row in &FLAGS {
@@ -46,7 +45,7 @@ fn add_method<'a>(
     name: &'a [u8],
     descriptor: &'a [u8],
 ) -> bool {
-    if flags & ABSTRACT != 0 {
+    if MethodFlags(flags).intersects(MethodFlags::ABSTRACT) {
         return class.bodiless(MethodFlags(flags), name, descriptor).is_ok();
     }
     match class.begin(MethodFlags(flags), name, descriptor) {

@@ -13,7 +13,9 @@ ghost use Rattle.jv_lookups.specs.Finals.{PassesWith};
 
 use crate::keys::{FinalKeys, row_of};
 use crate::marks::Marks;
-use crate::member::{FINAL, NamedMethod, PRIVATE, can_override, is_instance, is_overridden};
+use crate::member::{NamedMethod, can_override, is_instance, is_overridden};
+use bitflags::Flags;
+use jv_class_structure::MethodFlags;
 use jv_classes::{KeyRow, LoadedClass};
 
 // how many superclasses that may declare a method final it is looked up in at most, the highest one first, before it goes over those below
@@ -43,7 +45,7 @@ fn declares_final_alike(class: &LoadedClass<'_>, wanted: &NamedMethod<'_, '_>) -
     let Some(access_flags) = flags_alike(class, wanted) else {
         return false;
     };
-    access_flags & FINAL != 0
+    MethodFlags(access_flags).intersects(MethodFlags::FINAL)
 }
 
 /// Whether the method overrides a final one of this class further up, whose package has this number;
@@ -68,10 +70,10 @@ fn overrides_final_of(
     if !is_overridden(marks.is_marked(number), access_flags) {
         return false;
     }
-    if access_flags & PRIVATE == 0 {
+    if !MethodFlags(access_flags).intersects(MethodFlags::PRIVATE) {
         marks.mark(number);
     }
-    access_flags & FINAL != 0
+    MethodFlags(access_flags).intersects(MethodFlags::FINAL)
 }
 
 /// The superclasses up to the last one that is marked.

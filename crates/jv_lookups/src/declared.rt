@@ -8,16 +8,11 @@ ghost use Rattle.jv_meaning_world.specs.Numbers.{HoldsAtNumber};
 ghost use Rattle.jv_lookups.specs.Places.{method_at, IsMethodPlace, IsMethodFound};
 
 use crate::place::Place;
+use bitflags::Flags;
+use jv_class_structure::MethodFlags;
 use jv_classes::{ClassTable, KeyRow, Text};
 
-// Access flags of methods (JVMS table 4.6-A).
-const PRIVATE_OR_STATIC: u16 = 0x000a;
-
-const PUBLIC: u16 = 0x0001;
-
-const STATIC: u16 = 0x0008;
-
-const ABSTRACT: u16 = 0x0400;
+const PRIVATE_OR_STATIC: MethodFlags = MethodFlags(0x000a);
 
 /// The method of a name and a descriptor that a class declares.
 pub(crate) fn declared_method(
@@ -69,7 +64,7 @@ pub(crate) fn is_inheritable(table: &ClassTable<'_>, place: Place) -> bool
     requires { IsMethodPlace table.now place }
     ensures { (d : Declared) → method_at table.now place ≡ Some d → result ≡ is_inheritable d }
 {
-    flags_of(table, place) & PRIVATE_OR_STATIC == 0
+    !MethodFlags(flags_of(table, place)).intersects(PRIVATE_OR_STATIC)
 }
 
 /// Whether the method at a place is not abstract (JVMS 5.4.3.3).
@@ -77,7 +72,7 @@ pub(crate) fn is_concrete(table: &ClassTable<'_>, place: Place) -> bool
     requires { IsMethodPlace table.now place }
     ensures { (d : Declared) → method_at table.now place ≡ Some d → result ≡ is_concrete d }
 {
-    flags_of(table, place) & ABSTRACT == 0
+    !MethodFlags(flags_of(table, place)).intersects(MethodFlags::ABSTRACT)
 }
 
 /// Whether the method at a place is public and not static (JVMS 5.4.3.4).
@@ -86,5 +81,6 @@ pub(crate) fn is_public_instance(table: &ClassTable<'_>, place: Place) -> bool
     ensures { (d : Declared) → method_at table.now place ≡ Some d → result ≡ is_public_instance d }
 {
     let flags = flags_of(table, place);
-    flags & PUBLIC != 0 && flags & STATIC == 0
+    MethodFlags(flags).intersects(MethodFlags::PUBLIC)
+        && !MethodFlags(flags).intersects(MethodFlags::STATIC)
 }

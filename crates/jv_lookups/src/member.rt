@@ -6,23 +6,15 @@ ghost use Rattle.jv_meaning_world.specs.Verdicts.{is_final_instance};
 ghost use Rattle.jv_lookups.specs.Inside.Overridden.{can_override};
 ghost use Rattle.jv_lookups.specs.Inside.Steps.{as_method, is_overridden_if};
 
+use bitflags::Flags;
+use jv_class_structure::MethodFlags;
 use jv_classes::{Member, Text};
 
-const PUBLIC: u16 = 0x0001;
-
-pub(crate) const PRIVATE: u16 = 0x0002;
-
-const PROTECTED: u16 = 0x0004;
-
-const STATIC: u16 = 0x0008;
-
-pub(crate) const FINAL: u16 = 0x0010;
-
 // PUBLIC and PROTECTED
-const OPEN: u16 = 0x0005;
+const OPEN: MethodFlags = MethodFlags(0x0005);
 
 // PUBLIC, PRIVATE and PROTECTED
-const SOME_ACCESS: u16 = 0x0007;
+const SOME_ACCESS: MethodFlags = MethodFlags(0x0007);
 
 /// A method that is looked up in other classes: with the texts of its name and of its descriptor.
 pub(crate) struct NamedMethod<'m, 'a> {
@@ -45,21 +37,22 @@ impl Drop for NamedMethod<'_, '_> {
 pub(crate) fn is_instance(method: &Member<'_>) -> bool
     ensures { result ≡ is_instance (as_method method.now) }
 {
-    method.access_flags & STATIC == 0 && method.name != b"<init>".as_slice()
+    !MethodFlags(method.access_flags).intersects(MethodFlags::STATIC)
+        && method.name != b"<init>".as_slice()
 }
 
 /// Whether it is a final instance method.
 pub(crate) fn is_final_instance(method: &Member<'_>) -> bool
     ensures { result ≡ is_final_instance (as_method method.now) }
 {
-    method.access_flags & FINAL != 0 && is_instance(method)
+    MethodFlags(method.access_flags).intersects(MethodFlags::FINAL) && is_instance(method)
 }
 
 /// Whether it is an instance method that is not private, which can override (JVMS 5.4.5).
 pub(crate) fn can_override(method: &Member<'_>) -> bool
     ensures { result ≡ can_override (as_method method.now) }
 {
-    is_instance(method) && method.access_flags & PRIVATE == 0
+    is_instance(method) && !MethodFlags(method.access_flags).intersects(MethodFlags::PRIVATE)
 }
 
 /// Whether a method with these flags is overridden, where `found` says whether its package is among
@@ -67,5 +60,6 @@ pub(crate) fn can_override(method: &Member<'_>) -> bool
 pub(crate) fn is_overridden(found: bool, access_flags: u16) -> bool
     ensures { result ≡ is_overridden_if found access_flags }
 {
-    access_flags & OPEN != 0 || (access_flags & SOME_ACCESS == 0 && found)
+    MethodFlags(access_flags).intersects(OPEN)
+        || (!MethodFlags(access_flags).intersects(SOME_ACCESS) && found)
 }

@@ -8,17 +8,15 @@ ghost use Rattle.jv_class_structure.specs.Seen.{seen_method, seen_code};
 ghost use Rattle.jv_meaning_typing.specs.Typing.{argument_words};
 ghost use Rattle.jv_verify.specs.Inside.Known.{AreArgumentWords, AreWithin, AreNotWithin, IsWithinLocals, SaysTypes};
 
-use jv_class_structure::{Method, MethodCode};
+use bitflags::Flags;
+use jv_class_structure::{Method, MethodCode, MethodFlags};
 use jv_text::{is_init, types_agree};
 use jv_verify_types::{CurrentClass, MethodTypes};
-
-// An access flag of methods (JVMS table 4.6-A).
-const STATIC: u16 = 0x0008;
 
 pub(crate) fn is_static(method: &Method<'_>) -> bool
     ensures { result ≡ has method.now.access_flags.0 acc_static }
 {
-    method.access_flags.0 & STATIC != 0
+    method.access_flags.intersects(MethodFlags::STATIC)
 }
 
 /// Whether a method's name is `<init>`.

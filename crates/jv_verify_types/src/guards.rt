@@ -20,16 +20,13 @@ use crate::declared::{field_found, method_found};
 use crate::hashed::{PoolHashes, called_indices};
 use crate::indices::{MemberIndices, field_indices};
 use crate::packages::same_package_once;
+use bitflags::Flags;
+use jv_class_structure::MethodFlags;
 use jv_classes::pool_hashes;
 use jv_link::{field_at, method_at, same_class};
 use jv_loader::{ClassTable, Classes, LoadedClass};
 use jv_pool::{Constant, MemberName, Pool, kinds_name};
 use std::alloc::{AllocError, Global};
-
-// Access flags of fields and methods (JVMS tables 4.5-A, 4.6-A).
-const PROTECTED: u16 = 0x0004;
-
-const STATIC: u16 = 0x0008;
 
 /// No method of a class that is public, or whose class is an interface, is protected, where it is not static (JVMS 4.6).
 /// The call does nothing.
@@ -63,7 +60,8 @@ fn is_below(table: &ClassTable<'_>, current: usize, named: usize) -> bool
 fn is_protected_instance(flags: u16) -> bool
     ensures { result ≡ is_protected_instance flags }
 {
-    flags & PROTECTED != 0 && flags & STATIC == 0
+    MethodFlags(flags).intersects(MethodFlags::PROTECTED)
+        && !MethodFlags(flags).intersects(MethodFlags::STATIC)
 }
 
 /// Whether a member with these flags that a class declares is protected, not static, and of another run-time package.

@@ -1,5 +1,0 @@
-use Rattle.std.proofs.Common.{rules}
-use Rattle.jv_class_structure.proofs.members.is_static.Goals as goal
-
-pub returns : goal.returns
-returns c = search rules
