@@ -44,9 +44,10 @@ few_of_files library files judged are most few =
 
 pub begun :
     (a : Admitted) (before after : Blocks) → a.feeds.items ≡ [] → a.came ≡ length a.files.input.now → a.came ≤ 16777216
+    → 64 ≤ a.budget.cells → a.budget.cells ≤ 16777216
     → Begins a.files.system.now (map bytes_of a.files.files.now) a.files.main.now a.files.input.now a.budget before a.guest after
     → HasBegun (admission (guest_of a.files) (budget_of a.budget)) a before after
-begun a before after empty came few h = record {
+begun a before after empty came few least most h = record {
   admission_is = ap (λ (f : List Feed). fed_so f a.guest.steps) no_feeds ∙ ap (λ (n : ℕ). fed_so [] n) h.stands.steps_are;
   addresses = h.addresses;
   held = record {
@@ -55,6 +56,8 @@ begun a before after empty came few h = record {
         (subst (λ (n : ℕ). GuestStands (guest_of a.files) (budget_of a.budget) [] n h.addresses a.guest after) (sym h.stands.steps_are) h.stands);
     came = let none = ap (λ (f : List Feed). fed_bytes f) no_feeds in omega (arith, none, came);
     few = few;
+    least = least;
+    most = most;
   };
   grows = h.grows;
 }

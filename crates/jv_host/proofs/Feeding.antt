@@ -59,6 +59,8 @@ module _ (a d : Admitted) where
             (subst (λ (n : ℕ). GuestStands files budget feeds n addresses d.guest blocks) (sym stands.steps_are) stands);
         came = let old = h.came in let all = ap (λ (l : List Fed). fed_bytes (map feed_of l)) items in omega (arith, old, came, all);
         few = let old = h.few in omega (arith, old, came);
+        least = h.least;
+        most = h.most;
       }
 
   pub same_admission :
@@ -98,6 +100,8 @@ module _ (a d : Admitted) where
               let more = bytes_of_more feeds (feed_now a.guest.steps) in
               omega (arith, old, came, all, more);
           few = few;
+          least = h.least;
+          most = h.most;
         }
 
     fed_so : (bytes : List ℕ) → bytes ≡ fed.bytes.items → 0 < length bytes → fed_now bytes (admission_of a) ≡ admission_with (feeds ++ feed_now a.guest.steps ∷ []) a.guest.steps

@@ -4,6 +4,7 @@ pub mod Faultless
 pub mod Feeding
 pub mod Holdings
 pub mod MayBegin
+pub mod ObjectWords
 pub mod Places
 pub mod Rounding
 pub mod RunsNow

@@ -149,6 +149,8 @@ module _ (one : OneJudged) (stays : EndedGuestStays) (old : Admitted) (after : G
         stands = subst (λ (n : ℕ). GuestStands files budget feeds n (addresses ++ w.more) after blocks_after) (sym w.stands.steps_are) w.stands;
         came = h.came;
         few = h.few;
+        least = h.least;
+        most = h.most;
       };
       grows = w.grows;
     }

@@ -18,7 +18,7 @@ use jv_library::KnownLibrary;
 use jv_limits::{AdmitFault, FeedFault};
 use jv_meaning_machine::{ended_guest_stays, judged_by_verdicts, one_judged};
 use jv_meaning_world::one_content;
-use jv_store::{MOST_WORDS, Store};
+use jv_store::Store;
 use std::alloc::{AllocError, Global};
 use std::hash::RandomState;
 
@@ -67,14 +67,6 @@ fn copy_of(alloc: Global, bytes: &[u8]) -> Result<Vec<u8>, AllocError>
     Ok(copy)
 }
 
-/// Whether a store may have so many words more. 64 guests have 1,073,741,824 cells at most, so it may; but that a guest's steps keep the
-/// store's total is no clause of theirs.
-fn has_place<S: Store>(store: &S, words: u32) -> bool
-    ensures { IsTrue result → S.room_left store.now + words_held (S.content store.now) + words ≤ 4294967294 }
-{
-    store.total() + u64::from(words) <= MOST_WORDS
-}
-
 /// Judges the files of a guest, and its library beside them where that isn't known to stand there, and begins it.
 ///
 /// # Errors
@@ -93,6 +85,7 @@ pub(crate) fn begin<'a, S: Store>(
     requires input { length files.input.now ≤ 16777216 }
     requires some { 64 ≤ budget.cells }
     requires most { budget.cells ≤ 16777216 }
+    requires total { S.room_left store.old + words_held (S.content store.old) + budget.cells ≤ 4294967294 }
     ensures begun { IfOk result (λ a.
         HasBegun (admission (guest_of files.entry) (budget_of budget)) a (S.content store.old) (S.content store.new)) }
     ensures room { IfOk result (λ a. S.room_left store.new ≡ S.room_left store.old + a.guest.held.cells) }
@@ -110,9 +103,6 @@ pub(crate) fn begin<'a, S: Store>(
     };
     if !stands {
         return Err(AdmitFault::LibraryBroken);
-    }
-    if !has_place(store, budget.cells) {
-        return Err(AdmitFault::HostMemory);
     }
     let Ok(guest) = Guest::new(alloc, state, judged, files.main, files.input, budget, store) else {
         return Err(AdmitFault::HostMemory);

@@ -15,7 +15,7 @@ use crate::limits::first_refusal;
 use jv_interp::{Budget, Observation};
 use jv_library::KnownLibrary;
 use jv_limits::{AdmitFault, FeedFault, NoGuest, TurnFault};
-use jv_meaning_machine::one_judged;
+use jv_meaning_machine::{cells_are_budgeted, one_judged};
 use jv_meaning_typing::Verdict;
 use jv_sound::{never_faults, no_library_stands};
 use jv_store::Store;
@@ -112,6 +112,7 @@ impl<'a, S: Store> Host<'a, S> {
             return Err(AdmitFault::HostMemory);
         };
         no_library_stands();
+        cells_are_budgeted();
         let admitted = begin(
             self.alloc,
             self.state,

@@ -73,6 +73,9 @@ at_place [] k x less e = absurd (omega (arith, less))
 at_place (y ∷ ys) zero x less e = ap Some e
 at_place (y ∷ ys) (suc k) x less e = at_place ys k x (omega (arith, less)) e
 
+pub held_at : (xs : List ℕ) (x : ℕ) → Contains xs x → (k : ℕ) × (slice_get xs k ≡ Some x)
+held_at xs x c = (c.0, at_place xs c.0 x c.1 c.2)
+
 -- and its new objects are none of the other's
 pub still_apart :
     (g : GuestFiles) (b : Budget) (feeds : List Feed) (n : ℕ) (own addresses more : List ℕ) (guest : Guest) (before after : Blocks) → AreApart own addresses
@@ -86,6 +89,3 @@ still_apart g b feeds n own addresses more guest before after apart grows h addr
           let low = h.stands.memory.objects.held at.0 address at.1 in
           omega (arith, up, low)
     ]
-  where
-    held_at : (xs : List ℕ) (x : ℕ) → Contains xs x → (k : ℕ) × (slice_get xs k ≡ Some x)
-    held_at xs x c = (c.0, at_place xs c.0 x c.1 c.2)

@@ -17,6 +17,7 @@ use Rattle.jv_lookups.specs.declared.place.Place.{Place}
 use Rattle.jv_lookups.specs.Places.{method_at, method_of, IsMethodPlace}
 use Rattle.jv_interp_heap.specs.ObjectsInBlocks.{Blocks}
 use Rattle.jv_interp_held.specs.declared.held.Held.{Held}
+use Rattle.jv_interp_held.proofs.Growths.{grows_not}
 use Rattle.jv_interp_control.specs.declared.frames.Frames.{Frames}
 use Rattle.jv_interp_control.specs.declared.control.Control.{Control}
 use Rattle.jv_interp_control.specs.declared.control.End.TheVariants as ends
@@ -24,7 +25,6 @@ use Rattle.jv_interp_control.specs.FramesStand.{FramesStand}
 use Rattle.jv_interp_control.specs.ControlStands.{ControlStands}
 use Rattle.jv_interp_control.specs.Standing.{kept, StateStands, Moves, Reaches}
 use Rattle.jv_interp_control.specs.Moves.{Beginning}
-use Rattle.jv_interp_control.proofs.MemoryJoined.{grows_not}
 use Rattle.jv_interp.specs.Opening.{Opening}
 
 same_state : (s t : State) → ◌≡◌ {A = OrFault State} (Ok s) (Ok t) → s ≡ t

@@ -24,6 +24,7 @@ use Rattle.jv_interp_heap.specs.ObjectsInBlocks.{Blocks}
 use Rattle.jv_interp_held.specs.declared.held.Held.{Held}
 use Rattle.jv_interp_held.specs.declared.effect.Effect.{Effect}
 use Rattle.jv_interp_held.specs.declared.effect.Effect.TheVariants as effects
+use Rattle.jv_interp_held.proofs.Growths.{grows_not}
 use Rattle.jv_interp_members.specs.declared.methods.Methods.{Methods}
 use Rattle.jv_interp_members.specs.Methods.{AreMethods}
 use Rattle.jv_interp_control.specs.declared.frames.Frames.{Frames}
@@ -32,7 +33,6 @@ use Rattle.jv_interp_control.specs.Leaving.{Left}
 use Rattle.jv_interp_control.specs.Standing.{kept, StateStands, Reaches}
 use Rattle.jv_interp_control.specs.Suspending.{Suspending}
 use Rattle.jv_interp_control.proofs.Entered.{is_entered}
-use Rattle.jv_interp_control.proofs.MemoryJoined.{grows_not}
 use Rattle.jv_interp_control.proofs.Unwound.{same_state, fits}
 use Rattle.jv_interp_control.specs.Running.{StateRuns}
 use Rattle.jv_interp_control.specs.Acting.{Acting}

@@ -23,6 +23,7 @@ use Rattle.jv_interp_held.specs.declared.held.Held.{Held}
 use Rattle.jv_interp_held.specs.declared.class_state.ClassState.{ClassState}
 use Rattle.jv_interp_held.specs.declared.class_state.ClassState.TheVariants as states
 use Rattle.jv_interp_held.specs.ClassStates.{kept_state, AreClassStates}
+use Rattle.jv_interp_held.proofs.Growths.{grows_not}
 use Rattle.jv_interp_heap.specs.SystemNumbers.{SystemHasNumbers}
 use Rattle.jv_interp_control.specs.declared.frames.Frames.{Frames}
 use Rattle.jv_interp_control.specs.declared.control.Control.{Control}
@@ -32,7 +33,6 @@ use Rattle.jv_interp_control.specs.Standing.{kept, StateStands, Moves, Reaches}
 use Rattle.jv_interp_control.specs.Moves.{Raising, Beginning}
 use Rattle.jv_interp_control.proofs.Counted.{reversed_push}
 use Rattle.jv_interp_control.proofs.EntersStand.{words_lack, words_given}
-use Rattle.jv_interp_control.proofs.MemoryJoined.{grows_not}
 use Rattle.jv_interp_control.proofs.Replacements.{numbers_in}
 use Rattle.jv_interp_control.proofs.Unwound.{same_state}
 

@@ -26,13 +26,13 @@ use Rattle.jv_interp_heap.specs.ObjectsInBlocks.{Blocks}
 use Rattle.jv_interp_heap.proofs.Joined.{within}
 use Rattle.jv_interp_held.specs.declared.held.Held.{Held}
 use Rattle.jv_interp_held.specs.Growing.{Grows}
+use Rattle.jv_interp_held.proofs.Growths.{grows_not}
 use Rattle.jv_interp_objects.specs.Literals.{FindingLiteral, LiteralGiven, NothingGiven}
 use Rattle.jv_interp_objects.specs.Exceptions.{GivesObject}
 use Rattle.jv_interp_control.specs.declared.frames.Frames.{Frames}
 use Rattle.jv_interp_control.specs.declared.control.Control.{Control}
 use Rattle.jv_interp_control.specs.Moves.{Throwing}
 use Rattle.jv_interp_control.specs.Standing.{kept, Moves, Reaches}
-use Rattle.jv_interp_control.proofs.MemoryJoined.{grows_not}
 use Rattle.jv_interp_control.proofs.Unwound.{stand_grown, same_state}
 use Rattle.jv_interp_control.specs.Inside.Constants.{Putting, HasPut}
 use Rattle.jv_interp_control.specs.Inside.DoingTasks.{Setting}

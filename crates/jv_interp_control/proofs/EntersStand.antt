@@ -15,6 +15,7 @@ use Rattle.jv_interp_words.specs.declared.records.FrameRecord.TheVariants as rec
 use Rattle.jv_interp_words.proofs.Gave.{bound_gave, found_gave}
 use Rattle.jv_interp_heap.specs.ObjectsInBlocks.{Blocks}
 use Rattle.jv_interp_held.specs.declared.held.Held.{Held}
+use Rattle.jv_interp_held.proofs.Growths.{grows_not}
 use Rattle.jv_interp_heap.specs.SystemNumbers.{SystemHasNumbers}
 use Rattle.jv_interp_members.specs.declared.methods.Methods.{Methods}
 use Rattle.jv_interp_members.specs.Methods.{AreMethods}
@@ -27,7 +28,6 @@ use Rattle.jv_interp_control.specs.Moves.{Raising, Entering}
 use Rattle.jv_interp_control.specs.Inside.Codes.{IsCodeOf}
 use Rattle.jv_interp_control.proofs.Counted.{has_room}
 use Rattle.jv_interp_control.proofs.Entered.{frame_entered, is_entered, method_entered}
-use Rattle.jv_interp_control.proofs.MemoryJoined.{grows_not}
 use Rattle.jv_interp_control.proofs.Replacements.{numbers_in}
 use Rattle.jv_interp_control.proofs.Unwound.{same_state}
 

@@ -18,11 +18,11 @@ use Rattle.jv_interp_words.specs.FramesInWords.{in_use, methods_of, AreFrames}
 use Rattle.jv_interp_words.proofs.InUse.{length-in_use}
 use Rattle.jv_interp_heap.specs.ObjectsInBlocks.{Blocks}
 use Rattle.jv_interp_held.specs.declared.held.Held.{Held}
+use Rattle.jv_interp_held.proofs.Growths.{grows_not}
 use Rattle.jv_interp_control.specs.declared.frames.Frames.{Frames}
 use Rattle.jv_interp_control.specs.declared.control.Control.{Control}
 use Rattle.jv_interp_control.specs.Moves.{Entering}
 use Rattle.jv_interp_control.specs.Standing.{kept, Moves, Reaches, StateStands}
-use Rattle.jv_interp_control.proofs.MemoryJoined.{grows_not}
 use Rattle.jv_interp_control.specs.Inside.Finishing.{Finishing, Marking, Marked}
 
 -- ---- frames and records

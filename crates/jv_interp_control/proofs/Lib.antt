@@ -11,7 +11,6 @@ pub mod ClassesAbove
 pub mod HandlerFound
 pub mod ThrownAgain
 pub mod Replacements
-pub mod GrownTwice
 pub mod Walks
 pub mod AllPassed
 pub mod Unwound

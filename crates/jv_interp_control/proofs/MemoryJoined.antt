@@ -20,24 +20,8 @@ use Rattle.jv_interp_heap.proofs.NewObjects.{instance_joined}
 use Rattle.jv_interp_held.specs.declared.held.Held.{Held}
 use Rattle.jv_interp_held.specs.HeldInWords.{static_fields, IsLiteral, AreLiterals, MemoryStands}
 use Rattle.jv_interp_held.specs.Growing.{Grows}
+use Rattle.jv_interp_held.proofs.Growths.{grows_not, joined_grows}
 use Rattle.jv_interp_control.specs.Exceptions.{IsMade}
-
--- ---- a guest's blocks grew
-
-pub grows_not : (addresses : List ℕ) (blocks : Blocks) → Grows addresses [] blocks blocks
-grows_not addresses blocks = record { others = λ other low apart. refl; above = λ address c. let low = c.1 in absurd (omega (arith, low)); no_lower = omega arith }
-
-pub grows_joined :
-    (addresses words : List ℕ) (before after : Blocks) (address : ℕ) → Joins words before after address → Grows addresses (address ∷ []) before after
-grows_joined addresses words before after address h = record {
-  others = λ other low apart. ap (λ (c : Blocks). words_at c other) h.joins ∙ others_stay before address words other h.above low;
-  above = λ other c. subst (λ (n : ℕ). greatest before < n) (sole c.0 other c.1 c.2) h.above;
-  no_lower = let top = ap greatest h.joins ∙ greatest-append_above before address words h.above in let a = h.above in omega (arith, top, a);
-}
-  where
-    sole : (k other : ℕ) → k < 1 → get_or (address ∷ []) k other ≡ other → address ≡ other
-    sole zero other low e = e
-    sole (suc k) other low e = absurd (omega (arith, low))
 
 -- ---- what stood under the addresses stands under more
 
@@ -133,5 +117,5 @@ module _ (world : World) (texts : List (List ℕ)) (memory : Memory) (addresses 
         memory = memory_joined world texts memory addresses (address ∷ []) held after before blocks (memory.objects ++ made_object world l ∷ [])
             (memory.cells - object_cells world l) h objects same cells;
         object = subst (λ (n : ℕ). slice_get (addresses ++ address ∷ []) n ≡ Some address) there (newest addresses address);
-        grows = grows_joined addresses (class ∷ replicate words 0) before blocks address made.1;
+        grows = joined_grows addresses (class ∷ replicate words 0) before blocks address made.1;
       })

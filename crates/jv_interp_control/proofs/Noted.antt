@@ -40,7 +40,8 @@ noted_stands world texts memory addresses held blocks d object instance there m 
     let noted = slice_set memory.objects object (entered_on d instance) in
     let changed : ObjectsStand world noted addresses blocks =
     object_changed world memory.objects addresses blocks blocks object address.0 (InstanceOf instance) (entered_on d instance) (words_at blocks address.0)
-    m.objects address.1 there (record { own = refl; others = λ other apart. refl; same_greatest = refl })
+    m.objects address.1 there
+    (record { own = refl; others = λ other apart. refl; same_greatest = refl; same_lengths = λ other. refl; same_held = refl })
     (instance_noted world addresses d instance (words_at blocks address.0) (m.objects.each object address.0 (InstanceOf instance) address.1 there)) in
     subst (λ (l : List ℕ). MemoryStands world texts (with_object object (entered_on d instance) memory) l held blocks) (append-nil addresses)
     (memory_joined world texts memory addresses [] held held blocks blocks noted memory.cells m

@@ -21,6 +21,7 @@ use Rattle.jv_interp_heap.specs.NewBlocks.{Joins}
 use Rattle.jv_interp_heap.proofs.NewWords.{joined_words}
 use Rattle.jv_interp_held.specs.declared.held.Held.{Held}
 use Rattle.jv_interp_held.specs.HeldInWords.{MemoryStands}
+use Rattle.jv_interp_held.proofs.Growths.{grows_not}
 use Rattle.jv_interp_heap.specs.SystemNumbers.{IsGuestsWorld, AreSystemNumbers, SystemHasNumbers}
 use Rattle.jv_interp_control.specs.declared.control.PlaceRecord.{PlaceRecord}
 use Rattle.jv_interp_control.specs.declared.throwing.Thrown.{Thrown as ThrownInWords}
@@ -29,7 +30,7 @@ use Rattle.jv_interp_control.specs.Inside.Places.{record_place}
 use Rattle.jv_interp_control.specs.Exceptions.{IsMade}
 use Rattle.jv_interp_control.specs.Inside.Walking.{ThrownStands, Replacing, Replaced}
 use Rattle.jv_meaning_world.proofs.Up.{found_is_named}
-use Rattle.jv_interp_control.proofs.MemoryJoined.{ExceptionStands, made_of, grows_not}
+use Rattle.jv_interp_control.proofs.MemoryJoined.{ExceptionStands, made_of}
 use Rattle.jv_interp_control.proofs.ThrownAgain.{initializer_error, IsThrown, is_thrown, has_word, thrown_stands, thrown_control}
 
 same_some : {A : Type 0} (x y : A) → Some x ≡ Some y → x ≡ y

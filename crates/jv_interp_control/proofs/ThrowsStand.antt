@@ -14,6 +14,7 @@ use Rattle.jv_interp_words.specs.FramesInWords.{in_use}
 use Rattle.jv_interp_words.proofs.Gave.{bound_gave}
 use Rattle.jv_interp_heap.specs.ObjectsInBlocks.{Blocks}
 use Rattle.jv_interp_held.specs.declared.held.Held.{Held}
+use Rattle.jv_interp_held.proofs.Growths.{then_grows}
 use Rattle.jv_interp_control.specs.declared.frames.Frames.{Frames}
 use Rattle.jv_interp_control.specs.declared.control.Control.{Control}
 use Rattle.jv_interp_control.specs.declared.control.PlaceRecord.{PlaceRecord}
@@ -25,7 +26,6 @@ use Rattle.jv_interp_control.specs.Standing.{kept, StateStands, Moves, Reaches}
 use Rattle.jv_interp_control.specs.Moves.{Throwing, Raising}
 use Rattle.jv_interp_control.specs.Inside.Unwinding.{Unwinding}
 use Rattle.jv_interp_control.proofs.Counted.{frames_count}
-use Rattle.jv_interp_control.proofs.GrownTwice.{grows_twice}
 use Rattle.jv_interp_control.proofs.MemoryJoined.{ExceptionStands}
 use Rattle.jv_interp_control.proofs.PlacesStand.{places_stand}
 use Rattle.jv_interp_control.proofs.Replacements.{NewThrown, new_thrown, exception_stands}
@@ -124,5 +124,5 @@ module _ (world : World) (class : ℕ) (program : Program) (texts : List (List �
   then_reaches frames_after control_after held_after last r = record {
     more = stands.more ++ r.more;
     stands = subst (λ (l : List ℕ). StateStands program texts t l (kept frames_after control_after held_after last)) (append_assoc addresses stands.more r.more) r.stands;
-    grows = grows_twice addresses stands.more r.more blocks blocks_after last stands.grows r.grows;
+    grows = then_grows addresses stands.more r.more blocks blocks_after last stands.grows r.grows;
   }

@@ -17,14 +17,13 @@ use Rattle.jv_interp_words.specs.declared.records.FrameRecord.TheVariants as rec
 use Rattle.jv_interp_words.proofs.Gave.{bound_gave}
 use Rattle.jv_interp_heap.specs.ObjectsInBlocks.{Blocks}
 use Rattle.jv_interp_held.specs.declared.held.Held.{Held}
+use Rattle.jv_interp_held.proofs.Growths.{grows_not, then_grows}
 use Rattle.jv_interp_control.specs.declared.throwing.Thrown.{Thrown as ThrownInWords}
 use Rattle.jv_interp_control.specs.ControlStands.{PlaceStands}
 use Rattle.jv_interp_control.specs.Inside.Places.{record_place}
 use Rattle.jv_interp_control.specs.Inside.Handling.{pc_of, Handling}
 use Rattle.jv_interp_control.specs.Inside.Passing.{passed, all_passed}
 use Rattle.jv_interp_control.specs.Inside.Walking.{with_throws, ThrownStands, Replacing, Replaced, Walking, Walked, Landed}
-use Rattle.jv_interp_control.proofs.GrownTwice.{grows_twice}
-use Rattle.jv_interp_control.proofs.MemoryJoined.{grows_not}
 use Rattle.jv_interp_control.proofs.PlacesStand.{places_stand_or}
 use Rattle.jv_interp_control.proofs.Stacked.{MethodAt, InitializationAt, method_at, initialization_at, same_count}
 
@@ -165,7 +164,7 @@ module _ (world : World) (all : List FrameRecord) (program : Program) (texts : L
               r.control_is
               ∙ ap (λ (c : Control). with_throws b.behind.control c) (control_more (Initializes b.at.frame) b.at.there);
           goes = subst (λ (n : ℕ). unwound program.world b.behind (drop n frames) ≡ Ok goes_to) (sym (one_more k)) b.goes;
-          grows = grows_twice addresses w.more r.more blocks blocks_now blocks_next w.grows r.grows;
+          grows = then_grows addresses w.more r.more blocks blocks_now blocks_next w.grows r.grows;
         }
 
     -- ---- where it stops

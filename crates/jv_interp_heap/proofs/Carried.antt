@@ -1,5 +1,5 @@
 -- A value that is carried from a block to the stack, or from the stack to a block.
-use Rattle.std.proofs.Common.{◌≡◌, ℕ, zero, suc, ◌≤◌, ℤ, List, [], ◌∷◌, Some, length, refl, sym, ap, subst, ◌∙◌, get_or, drop, slice_get}
+use Rattle.std.proofs.Common.{◌≡◌, ℕ, List, [], ◌∷◌, Some, length, refl, sym, ap, ◌∙◌, get_or}
 use Rattle.std.specs.Int.{w32, cast_signed}
 use Rattle.jv_meaning_machine.specs.Values.{Value, value_words}
 use Rattle.jv_meaning_machine.specs.Values.Value.{Int, Long, Null, Reference, Half, Unset}

@@ -1,18 +1,21 @@
 -- One object that changes, in its own block, and all others that stay.
-use Rattle.std.proofs.Common.{◌≡◌, ℕ, Bool, true, false, cond, nat_eq, List, Some, set, refl, sym, ap, subst, ◌∙◌, arith, slice_get, slice_set}
+use Rattle.std.proofs.Common.{◌≡◌, ℕ, Bool, true, false, cond, nat_eq, List, Some, length, set, refl, sym, ap, subst, ◌∙◌, arith, slice_get, slice_set}
 use Rattle.std.proofs.lemmas.List.{length-set}
-use Rattle.jv_store.specs.Content.{words_at, greatest, written}
+use Rattle.jv_store.specs.Content.{words_at, words_held, greatest, written}
+use Rattle.jv_store.proofs.Contents.{words_held-written}
 use Rattle.jv_store.proofs.LookUps.{greatest-written, words_at-written}
 use Rattle.jv_meaning_world.specs.World.{World}
 use Rattle.jv_meaning_machine.specs.Objects.{Object}
 use Rattle.jv_meaning_machine.proofs.KeptMemory.{set_there, set_elsewhere}
 use Rattle.jv_interp_heap.specs.ObjectsInBlocks.{Blocks, ObjectStands, ObjectsStand}
 
--- the block at an address has these words now, and no other one has others
+-- the block at an address has these words now, as many as before, and no other one has others
 pub record Changes (address : ℕ) (words : List ℕ) (before after : Blocks) : Type 0 where
   pub own : words_at after address ≡ words
   pub others : (other : ℕ) → (other ≡ address → ⊥) → words_at after other ≡ words_at before other
   pub same_greatest : greatest after ≡ greatest before
+  pub same_lengths : (other : ℕ) → length (words_at after other) ≡ length (words_at before other)
+  pub same_held : words_held after ≡ words_held before
 
 same_number : (n : ℕ) → nat_eq n n ≡ true
 same_number n = grind arith
@@ -35,7 +38,17 @@ word_written blocks address place word = record {
       words_at-written blocks address place word other
       ∙ ap (λ (b : Bool). cond b (set (words_at blocks address) place word) (words_at blocks other)) (other_number address other apart);
   same_greatest = greatest-written blocks address place word;
+  same_lengths = λ other. ap (λ (ws : List ℕ). length ws) (words_at-written blocks address place word other) ∙ by_number other (nat_eq address other) refl;
+  same_held = words_held-written blocks address place word;
 }
+  where
+    by_number :
+        (other : ℕ) (b : Bool) → nat_eq address other ≡ b
+        → length (cond b (set (words_at blocks address) place word) (words_at blocks other)) ≡ length (words_at blocks other)
+    by_number other false e = refl
+    by_number other true e =
+        let is : address ≡ other = grind (arith, e) in
+        length-set (words_at blocks address) place word ∙ ap (λ (n : ℕ). length (words_at blocks n)) is
 
 -- and then it is changed again
 pub then_changed :
@@ -45,6 +58,8 @@ then_changed address words more before between after h k = record {
   own = k.own;
   others = λ other apart. k.others other apart ∙ h.others other apart;
   same_greatest = k.same_greatest ∙ h.same_greatest;
+  same_lengths = λ other. k.same_lengths other ∙ h.same_lengths other;
+  same_held = k.same_held ∙ h.same_held;
 }
 
 pub object_changed :

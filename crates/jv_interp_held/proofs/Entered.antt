@@ -1,5 +1,5 @@
 -- A method that is entered, an initialization that is begun and an object that is thrown: they stand, where all else is as it was.
-use Rattle.std.proofs.Common.{◌≡◌, ℕ, ◌≤◌, List, [], ◌∷◌, ◌++◌, Option, Some, Ok, length, reverse, refl, sym, ap, subst, ◌∙◌, append-nil, arith, slice_get}
+use Rattle.std.proofs.Common.{◌≡◌, ℕ, ◌≤◌, List, [], ◌++◌, Option, Some, Ok, length, reverse, sym, ap, subst, append-nil, arith, slice_get}
 use Rattle.std.specs.List.{flat_map}
 use Rattle.std.proofs.lemmas.List.Sums.{sum_by-append}
 use Rattle.jv_meaning_world.specs.World.{Loaded}

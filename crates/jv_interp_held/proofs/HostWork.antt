@@ -1,6 +1,6 @@
 -- host/Io's methods on words: what the machine does stands afterwards.
-use Rattle.std.proofs.Common.{◌≡◌, ℕ, zero, suc, ℤ, pos, negsuc, ◌+◌, ◌-◌, ◌*◌, ◌%◌, ◌<◌, ◌≤◌, Bool, true, false, List, [], ◌∷◌, ◌++◌, length, drop, set, Ok, refl, sym, ap, subst, ◌∙◌, get_or, arith, append-nil}
-use Rattle.std.specs.Prelude.{◌==◌, vec_len, vec_capacity, if◌then◌else◌}
+use Rattle.std.proofs.Common.{◌≡◌, ℕ, zero, suc, ℤ, pos, negsuc, ◌+◌, ◌-◌, ◌%◌, ◌<◌, ◌≤◌, Bool, true, false, List, [], ◌∷◌, ◌++◌, length, drop, set, Ok, refl, sym, ap, subst, ◌∙◌, get_or, arith, append-nil}
+use Rattle.std.specs.Prelude.{◌==◌, vec_capacity, if◌then◌else◌}
 use Rattle.std.specs.Int.{w32, cast_signed, cast_unsigned}
 use Rattle.std.proofs.lemmas.Int.{of_z-to_z, to_z_pos}
 use Rattle.std.proofs.lemmas.Bool.Decides.{Decides-eqb}

@@ -1,5 +1,5 @@
 -- An exception that the machine raises, and a frame that goes on over the same memory: they stand, where all else is as it was.
-use Rattle.std.proofs.Common.{◌≡◌, ℕ, List, [], ◌∷◌, ◌++◌, length, refl, sym, ap, subst, ◌∙◌, append-nil}
+use Rattle.std.proofs.Common.{◌≡◌, ℕ, List, [], ◌++◌, refl, sym, subst, ◌∙◌, append-nil}
 use Rattle.jv_meaning_machine.specs.Values.{Value}
 use Rattle.jv_meaning_machine.specs.State.{Memory}
 use Rattle.jv_meaning_machine.specs.Effects.{Effect, Context, Outcome}
@@ -12,7 +12,7 @@ use Rattle.jv_interp_held.specs.EffectsInWords.{EffectStands}
 use Rattle.jv_interp_held.specs.Executing.{Place, Executes, Did}
 use Rattle.jv_interp_held.specs.HeldInWords.{MemoryStands}
 use Rattle.jv_interp_held.specs.Growing.{DidIn}
-use Rattle.jv_interp_held.proofs.Growths.{same_grows}
+use Rattle.jv_interp_held.proofs.Growths.{grows_not}
 
 module _ (part : Context → Outcome) (texts : List (List ℕ)) (next : ℕ) (here : Place) (c : Context) (addresses : List ℕ) (done : Memory × Effect) (below : List ℕ)
     (h : Executes part texts next here c addresses done below) where
@@ -33,7 +33,7 @@ module _ (part : Context → Outcome) (texts : List (List ℕ)) (next : ℕ) (he
               (sym (append-nil addresses)) (has, record { pc_is = h.pc_is; stand = h.frame });
           memory = same_memory;
         };
-        grows = same_grows addresses here.blocks here.blocks refl;
+        grows = grows_not addresses here.blocks;
       })
 
   pub raised : (class : List ℕ) (number : ℕ) → done ≡ (c.memory, Raises class) → HasNumber c.program.world class number → Did texts here (effects.Raises number) c addresses done below

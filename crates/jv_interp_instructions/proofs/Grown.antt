@@ -13,33 +13,16 @@ use Rattle.jv_interp_held.specs.declared.held.Held.{Held}
 use Rattle.jv_interp_held.specs.declared.effect.Effect.{Effect}
 use Rattle.jv_interp_held.specs.Executing.{Place, place, Did}
 use Rattle.jv_interp_held.specs.Growing.{Grows, DidIn}
+use Rattle.jv_interp_held.proofs.Growths.{grows_not}
 use Rattle.jv_interp_heap.specs.SystemNumbers.{IsGuestsWorld}
 use Rattle.jv_interp_members.specs.Known.{Known}
 use Rattle.jv_interp_instructions.specs.OnWords.{part_of, ExecutesInsn, DoneOnWords}
 use Rattle.jv_interp_instructions.specs.InGuest.{ExecutesIn, Executed}
 use Rattle.jv_interp_instructions.proofs.Unpaid.{no_more}
 
-none_in : {A : Type 0} (more : List A) (x : A) → more ≡ [] → Contains more x → ⊥
-none_in more x none h = let long = ap length none in let less = h.1 in absurd (omega (arith, long, less))
-
 -- no block changed
 pub unchanged : (addresses more : List ℕ) (blocks : Blocks) → more ≡ [] → Grows addresses more blocks blocks
-unchanged addresses more blocks none = record {
-  others = λ other below apart. refl;
-  above = λ address h. absurd (none_in more address none h);
-  no_lower = omega arith;
-}
-
--- one did, which is the guest's
-pub one_changed :
-    (addresses more : List ℕ) (before after : Blocks) → more ≡ []
-    → ((other : ℕ) → other ≤ greatest before → (Contains addresses other → ⊥) → words_at after other ≡ words_at before other)
-    → greatest after ≡ greatest before → Grows addresses more before after
-one_changed addresses more before after none others same = record {
-  others = others;
-  above = λ address h. absurd (none_in more address none h);
-  no_lower = omega (arith, same);
-}
+unchanged addresses more blocks none = subst (λ (l : List ℕ). Grows addresses l blocks blocks) (sym none) (grows_not addresses blocks)
 
 module _ (kept : ExecutionKeeps) (insn : Instruction) (next : ℕ) (k : Known) (texts : List (List ℕ)) (here : Place) (c : Context) (addresses : List ℕ) (done : Memory × EffectOfNames) (below : List ℕ)
     (h : ExecutesIn insn next k texts here c addresses done below) where
@@ -56,20 +39,6 @@ module _ (kept : ExecutionKeeps) (insn : Instruction) (next : ℕ) (k : Known) (
     grows =
         unchanged addresses did.more here.blocks
         (no_more kept c.program.world texts c insn done addresses did.more here.held held here.blocks here.blocks h.executes.does h.executes.memory did.memory same);
-  }
-
-  -- or one block of the guest's own
-  pub did_one :
-      (at : Registers) (words : List ℕ) (blocks : Blocks) (effect : Effect)
-      → ((other : ℕ) → other ≤ greatest here.blocks → (Contains addresses other → ⊥) → words_at blocks other ≡ words_at here.blocks other)
-      → greatest blocks ≡ greatest here.blocks → Did texts (place at words here.held blocks) effect c addresses done below
-      → DidIn here.blocks texts (place at words here.held blocks) effect c addresses done below
-  did_one at words blocks effect others greatest_is did = record {
-    did = did;
-    grows =
-        one_changed addresses did.more here.blocks blocks
-        (no_more kept c.program.world texts c insn done addresses did.more here.held here.held here.blocks blocks h.executes.does h.executes.memory did.memory refl)
-        others greatest_is;
   }
 
 pub executed_on_words :

@@ -38,7 +38,7 @@ use Rattle.jv_interp_objects.specs.Payments.{IsLacking}
 use Rattle.jv_interp_objects.specs.Exceptions.{GivesObject}
 use Rattle.jv_interp_objects.specs.TextBlocks.{TextJoins, text_cost, TextPaid}
 use Rattle.jv_interp_objects.specs.Literals.{FindingLiteral, LiteralGiven}
-use Rattle.jv_interp_held.proofs.Growths.{joined_grows, same_grows, then_grows, changed_grows}
+use Rattle.jv_interp_held.proofs.Growths.{changed_grows, grows_not, joined_grows, then_grows}
 use Rattle.jv_interp_objects.proofs.More.{last_place}
 use Rattle.jv_interp_objects.proofs.Went.{paid_lacks, paid_left}
 use Rattle.jv_interp_objects.proofs.Noted.{noted}
@@ -113,7 +113,7 @@ module _ (number : ℕ) (text : List ℕ) (held : Held) (before : Blocks) (texts
             more = [];
             stands = subst (λ (a : List ℕ). slice_get a object ≡ Some kept) (sym (append-nil addresses)) l;
             memory = subst (λ (a : List ℕ). MemoryStands program.world texts memory a held before) (sym (append-nil addresses)) h.stands;
-            grows = same_grows addresses before before refl;
+            grows = grows_not addresses before;
           })
 
   -- ---- it has none

@@ -8,7 +8,7 @@ use Rattle.jv_interp_held.specs.EffectsInWords.{OutcomeStands}
 use Rattle.jv_interp_held.specs.Executing.{Place, Executes}
 use Rattle.jv_interp_held.specs.HeldInWords.{MemoryStands}
 use Rattle.jv_interp_held.specs.Growing.{DidIn}
-use Rattle.jv_interp_held.proofs.Growths.{same_grows}
+use Rattle.jv_interp_held.proofs.Growths.{grows_not}
 
 module _ (part : Context → Outcome) (texts : List (List ℕ)) (next : ℕ) (here : Place) (c : Context) (addresses : List ℕ) (done : Memory × Effect) (below : List ℕ)
     (h : Executes part texts next here c addresses done below) where
@@ -27,7 +27,7 @@ module _ (part : Context → Outcome) (texts : List (List ℕ)) (next : ℕ) (he
           memory =
               subst (λ (l : List ℕ). MemoryStands c.program.world texts c.memory l here.held here.blocks) (sym (append-nil addresses)) h.memory;
         };
-        grows = same_grows addresses here.blocks here.blocks refl;
+        grows = grows_not addresses here.blocks;
       })
 
   -- another part does the same there

@@ -18,7 +18,7 @@ use Rattle.jv_interp_held.specs.EffectsInWords.{EffectStands}
 use Rattle.jv_interp_held.specs.Executing.{Place, place, Executes, HasRoom}
 use Rattle.jv_interp_held.specs.HeldInWords.{MemoryStands}
 use Rattle.jv_interp_held.specs.Growing.{Grows, DidIn}
-use Rattle.jv_interp_held.proofs.Growths.{same_grows}
+use Rattle.jv_interp_held.proofs.Growths.{grows_not}
 
 pub done_same : (a b : Memory × Effect) → ◌≡◌ {A = OrFault (Memory × Effect)} (Ok a) (Ok b) → b ≡ a
 done_same a b e = cc
@@ -65,7 +65,7 @@ module _ (part : Context → Outcome) (texts : List (List ℕ)) (next : ℕ) (he
               (sym (append-nil addresses)) (h.memory.error_stands, record { pc_is = h.pc_is; stand = h.frame });
           memory = same_memory;
         };
-        grows = same_grows addresses here.blocks here.blocks refl;
+        grows = grows_not addresses here.blocks;
       })))
 
   pub raises_in :
@@ -81,7 +81,7 @@ module _ (part : Context → Outcome) (texts : List (List ℕ)) (next : ℕ) (he
               (sym (append-nil addresses)) (has, record { pc_is = h.pc_is; stand = h.frame });
           memory = same_memory;
         };
-        grows = same_grows addresses here.blocks here.blocks refl;
+        grows = grows_not addresses here.blocks;
       })
 
   pub goes_in :

@@ -32,6 +32,7 @@ use Rattle.jv_interp_held.specs.declared.held.Held.{Held}
 use Rattle.jv_interp_held.specs.declared.effect.Effect.{Effect}
 use Rattle.jv_interp_held.specs.Executing.{HasRoom, place}
 use Rattle.jv_interp_held.specs.Growing.{Grows, DidIn}
+use Rattle.jv_interp_held.proofs.Growths.{then_grows}
 use Rattle.jv_interp_heap.specs.SystemNumbers.{IsGuestsWorld}
 use Rattle.jv_interp_words.specs.Going.{StaysIn}
 use Rattle.jv_interp_members.specs.declared.methods.Methods.{Methods}
@@ -43,7 +44,6 @@ use Rattle.jv_interp_control.specs.declared.control.Control.{Control}
 use Rattle.jv_interp_control.specs.Inside.Nexts.{Nexts}
 use Rattle.jv_interp_control.specs.Standing.{Kept, kept, StateStands}
 use Rattle.jv_interp_control.proofs.Counted.{frames_bound}
-use Rattle.jv_interp_control.proofs.GrownTwice.{grows_twice}
 use Rattle.jv_interp_control.proofs.Unwound.{fits}
 use Rattle.jv_interp_control.specs.Running.{HaveRoom, StateRuns}
 use Rattle.jv_interp_control.specs.Acting.{RunsIn, Acting, ActedTo}
@@ -298,5 +298,5 @@ module _ (world : World) (verified : List Bool) (at : Registers) (program : Prog
     stepped false after a = record {
       more = more ++ a.more;
       stands = subst (λ (l : List ℕ). StateStands program texts t l after) (append_assoc addresses more a.more) a.stands;
-      grows = grows_twice addresses more a.more blocks after_blocks after.blocks did_now.grows a.grows;
+      grows = then_grows addresses more a.more blocks after_blocks after.blocks did_now.grows a.grows;
     }

@@ -11,12 +11,12 @@ use Rattle.jv_interp_words.specs.StatesInWords.{RunningStands}
 use Rattle.jv_interp_words.proofs.Gave.{bound_gave}
 use Rattle.jv_interp_held.specs.declared.held.Held.{Held}
 use Rattle.jv_interp_held.specs.HeldInWords.{MemoryStands}
+use Rattle.jv_interp_held.proofs.Growths.{grows_not}
 use Rattle.jv_interp_heap.specs.ObjectsInBlocks.{Blocks}
 use Rattle.jv_interp_control.specs.declared.frames.Frames.{Frames}
 use Rattle.jv_interp_control.specs.declared.control.Control.{Control as KeptControl}
 use Rattle.jv_interp_control.specs.ControlStands.{ControlStands}
 use Rattle.jv_interp_control.specs.Standing.{Kept, kept}
-use Rattle.jv_interp_control.proofs.MemoryJoined.{grows_not}
 use Rattle.jv_interp_control.specs.Running.{StateRuns}
 use Rattle.jv_interp_words.specs.Stepping.{Stepped}
 use Rattle.jv_interp_words.specs.Running.{StandsHere, CanRun, RunsTo}

@@ -8,9 +8,8 @@ use Rattle.jv_meaning_machine.specs.Step.{step, after_steps}
 use Rattle.jv_interp_words.specs.declared.registers.Registers.{Registers}
 use Rattle.jv_interp_words.proofs.Gave.{bound_gave}
 use Rattle.jv_interp_held.specs.Growing.{Grows}
+use Rattle.jv_interp_held.proofs.Growths.{grows_not, then_grows}
 use Rattle.jv_interp_control.specs.Standing.{Kept, StateStands, Reaches}
-use Rattle.jv_interp_control.proofs.GrownTwice.{grows_twice}
-use Rattle.jv_interp_control.proofs.MemoryJoined.{grows_not}
 use Rattle.jv_interp_control.specs.Running.{StateRuns}
 use Rattle.jv_interp_steps.specs.Guests.{TakesStep}
 use Rattle.jv_interp_steps.specs.Stepping.{StepsIn, RunsOn}
@@ -59,7 +58,7 @@ pub reaches_join :
 reaches_join program texts t u addresses before between after r q = record {
   more = r.more ++ q.more;
   stands = subst (λ (l : List ℕ). StateStands program texts u l after) (append_assoc addresses r.more q.more) q.stands;
-  grows = grows_twice addresses r.more q.more before.blocks between.blocks after.blocks r.grows q.grows;
+  grows = then_grows addresses r.more q.more before.blocks between.blocks after.blocks r.grows q.grows;
 }
 
 pub runs_reach :
@@ -68,7 +67,7 @@ pub runs_reach :
 runs_reach program texts t u addresses at before between after r q = record {
   more = r.more ++ q.more;
   stands = subst (λ (l : List ℕ). StateStands program texts u l after) (append_assoc addresses r.more q.more) q.stands;
-  grows = grows_twice addresses r.more q.more before.blocks between.blocks after.blocks r.grows q.grows;
+  grows = then_grows addresses r.more q.more before.blocks between.blocks after.blocks r.grows q.grows;
 }
 
 pub runs_join :
@@ -78,7 +77,7 @@ pub runs_join :
 runs_join program texts t u addresses at at_after before between after r q = record {
   more = r.more ++ q.more;
   runs = subst (λ (l : List ℕ). StateRuns program texts u l at_after after) (append_assoc addresses r.more q.more) q.runs;
-  grows = grows_twice addresses r.more q.more before.blocks between.blocks after.blocks r.grows q.grows;
+  grows = then_grows addresses r.more q.more before.blocks between.blocks after.blocks r.grows q.grows;
 }
 
 pub some_frame : {x : Frame} {xs : List Frame} (fs : List Frame) → fs ≡ x ∷ xs → fs ≡ [] → ⊥

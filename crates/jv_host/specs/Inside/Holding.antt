@@ -1,8 +1,9 @@
 -- What the code keeps of the guests that were admitted, over one store.
-use Rattle.std.specs.Prelude.{◌≡◌, ◌⊎◌, ℕ, ◌+◌, ◌≤◌, List, [], ◌∷◌, ◌++◌, length, map, Some, slice_get}
+use Rattle.std.specs.Prelude.{◌≡◌, ◌⊎◌, ℕ, suc, ◌+◌, ◌≤◌, List, [], ◌∷◌, ◌++◌, length, map, Some, slice_get}
+use Rattle.jv_store.specs.Content.{words_held}
 use Rattle.jv_meaning_machine.specs.Alone.{Feed, GuestFiles}
 use Rattle.jv_interp_heap.specs.ObjectsInBlocks.{Blocks}
-use Rattle.jv_interp_held.specs.Growing.{Grows}
+use Rattle.jv_interp_held.specs.Growing.{Grows, words_under}
 use Rattle.jv_interp.specs.Started.{budget_of}
 use Rattle.jv_interp.specs.Standing.{GuestStands, AreApart}
 use Rattle.jv_host.specs.declared.admission.Fed.{Fed}
@@ -26,11 +27,14 @@ admission_of a = record {
 
 -- ---- one guest
 
--- A guest stands, under addresses of the store, for itself alone after its own steps. It is known how many bytes came to its input.
+-- A guest stands, under addresses of the store, for itself alone after its own steps. It is known how many bytes came to its input, and
+-- that its budget is one that the host allows.
 pub record IsHeld (a : Admitted) (addresses : List ℕ) (blocks : Blocks) : Type 0 where
   pub stands : GuestStands (guest_of a.files) (budget_of a.budget) (map feed_of a.feeds.items) a.guest.steps addresses a.guest blocks
   pub came : a.came ≡ input_bytes (admission_of a)
   pub few : a.came ≤ 16777216
+  pub least : 64 ≤ a.budget.cells
+  pub most : a.budget.cells ≤ 16777216
 
 abbrev pub IsSomeHeld : Admitted → Blocks → Type 0
 IsSomeHeld a blocks = (addresses : List ℕ) × IsHeld a addresses blocks
@@ -57,14 +61,21 @@ sum_over count (x ∷ xs) = count x + sum_over count xs
 abbrev pub cells_left : List Admitted → ℕ
 cells_left guests = sum_over cells_of guests
 
--- Each stands under addresses of its own, by its number; no two have one in common; and the store has room for their cells.
+-- the words of the objects that they have
+abbrev pub words_of : (ℕ → List ℕ) → List Admitted → Blocks → ℕ
+words_of addresses [] blocks = 0
+words_of addresses (a ∷ more) blocks = words_under (addresses 0) blocks + words_of (λ id. addresses (suc id)) more blocks
+
+-- Each stands under addresses of its own, by its number; no two have one in common; and the store has the words of their objects and room
+-- for the cells that they have left, and nothing else.
 pub record AreHeld (guests : List Admitted) (room : ℕ) (blocks : Blocks) : Type 0 where
   pub addresses : ℕ → List ℕ
   pub each : (id : ℕ) (a : Admitted) → slice_get guests id ≡ Some a → IsHeld a (addresses id) blocks
   pub apart :
       (one other : ℕ) (a b : Admitted) → slice_get guests one ≡ Some a → slice_get guests other ≡ Some b → (one ≡ other → ⊥)
       → AreApart (addresses one) (addresses other)
-  pub cells : cells_left guests ≤ room
+  pub room_is : room ≡ cells_left guests
+  pub words : words_held blocks ≡ words_of addresses guests blocks
   pub few : length guests ≤ 64
 
 -- ---- what single calls do

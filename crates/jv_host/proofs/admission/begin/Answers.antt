@@ -37,5 +37,5 @@ returns-clause-begun g c =
       came = length c.args.files.input.now;
       guest = c.in-Ok-new.guest;
     }) _ _
-    c.new-2.ensures.items refl c.requires.input
+    c.new-2.ensures.items refl c.requires.input c.requires.some c.requires.most
     (c.in-Ok-new.ensures.begun library files c.in-Ok.ensures.verdicts ((c.in-Ok-stands.ensures.stands files c.in-Ok.ensures.verdicts).0 c.if-not-stands.false))

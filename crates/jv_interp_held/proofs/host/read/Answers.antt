@@ -1,4 +1,4 @@
-use Rattle.std.proofs.Common.{◌+◌, ◌<◌, length, refl, arith, set}
+use Rattle.std.proofs.Common.{◌<◌, length, refl, arith}
 use Rattle.std.proofs.lemmas.List.{length-set}
 use Rattle.jv_interp_held.specs.Executing.{place}
 use Rattle.jv_interp_held.proofs.HostWork.{reads_byte, reads_end, has_room, reads}

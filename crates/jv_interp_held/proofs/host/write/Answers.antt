@@ -1,7 +1,6 @@
-use Rattle.std.proofs.Common.{◌+◌, ◌-◌, ◌%◌, ◌<◌, ◌≤◌, [], ◌∷◌, length, refl, ap, arith, get_or, length-append}
-use Rattle.std.specs.Prelude.{vec_len, vec_capacity}
+use Rattle.std.proofs.Common.{◌-◌, ◌%◌, [], ◌∷◌, length, refl, ap, arith, get_or, length-append}
 use Rattle.jv_interp_held.specs.Executing.{place}
-use Rattle.jv_interp_held.proofs.HostWork.{throws, writes}
+use Rattle.jv_interp_held.proofs.HostWork.{writes}
 use Rattle.jv_interp_held.proofs.host.write.Goals as goal
 
 pub push_reserved-requires : goal.push_reserved-requires

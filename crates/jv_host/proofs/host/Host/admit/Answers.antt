@@ -8,13 +8,22 @@ use Rattle.jv_host.specs.Calls.{admission}
 use Rattle.jv_host.specs.Inside.Holding.{admission_of, AreHeld}
 use Rattle.jv_host.proofs.Broken.{not_broken, standing}
 use Rattle.jv_host.proofs.Places.{count_of_map, map_of_more}
-use Rattle.jv_host.proofs.MayBegin.{few_guests, few_in_library}
-use Rattle.jv_host.proofs.Holdings.{one_more}
+use Rattle.jv_host.proofs.MayBegin.{few_guests, few_in_library, most_cells}
+use Rattle.jv_host.proofs.Holdings.{has_place, one_more}
 use Rattle.jv_host.proofs.host.Host.admit.Goals as goal
 
 pub begin-requires-clause-library : goal.begin-requires-clause-library
 begin-requires-clause-library g c =
     few_in_library (guest_of c.args.files) (budget_of c.args.budget) c.len-count.result (sym c.first_refusal.ensures ∙ c.in_default.is)
+
+pub begin-requires-clause-total : goal.begin-requires-clause-total
+begin-requires-clause-total g c =
+    let none = sym c.first_refusal.ensures ∙ c.in_default.is in
+    let few = few_guests (guest_of c.args.files) (budget_of c.args.budget) c.len-count.result none in
+    let count = c.len-count.ensures in
+    let size = c.self.inside.guests.ok.0 in
+    has_place c.self.inside.guests.items _ _ c.self.invariant c.cells_are_budgeted.ensures (omega (arith, few, count, size)) c.args.budget.cells
+    (most_cells (guest_of c.args.files) (budget_of c.args.budget) c.len-count.result none)
 
 pub invariant_of-self-2 : goal.invariant_of-self-2
 invariant_of-self-2 g c =
