@@ -55,9 +55,9 @@ help_asked line error (inl (inr among)) (inl help) =
     inl (subst (λ (kind : ErrorKind). IsAmong kind (fault_of command_line line)) help among)
 help_asked line error (inl (inr among)) (inr version) =
     inr (subst (λ (kind : ErrorKind). IsAmong kind (fault_of command_line line)) version among)
-help_asked line error (inr nothing) (inl help) = let none : kinds.ValueValidation ≡ kinds.DisplayHelp = sym nothing.1 ∙ help in cc
+help_asked line error (inr nothing) (inl help) = let none : kinds.ValueValidation ≡ kinds.DisplayHelp = sym nothing.2 ∙ help in cc
 help_asked line error (inr nothing) (inr version) =
-    let none : kinds.ValueValidation ≡ kinds.DisplayVersion = sym nothing.1 ∙ version in cc
+    let none : kinds.ValueValidation ≡ kinds.DisplayVersion = sym nothing.2 ∙ version in cc
 
 -- what was written whole or cut is a front
 pub front_of : {T E : Type 0} (old new : Option (List ℕ)) (text : List ℕ) (result : Result T E) → OnOk result (Appends old new text)

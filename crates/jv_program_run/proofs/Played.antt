@@ -1,6 +1,6 @@
 -- Guests that were admitted have had their turns.
-use Rattle.std.proofs.Common.{◌≡◌, ◌≢◌, ℕ, zero, suc, ◌+◌, ◌-◌, ◌<◌, ◌≤◌, Bool, true, false, cond, List, [], ◌∷◌, length, Option, Some, None, refl, sym, ap, subst, ◌∙◌, inl, inr, arith}
-use Rattle.std.specs.Prelude.{◌==◌, ◌||◌, IsSome, map, nat_lt, slice_get}
+use Rattle.std.proofs.Common.{◌≡◌, ◌≢◌, ℕ, zero, suc, ◌+◌, ◌-◌, ◌<◌, ◌≤◌, Bool, true, false, cond, List, [], ◌∷◌, length, Option, Some, None, Result, Ok, Err, refl, sym, ap, subst, ◌∙◌, inl, inr, arith}
+use Rattle.std.specs.Prelude.{◌==◌, ◌||◌, IfErr, IsSome, map, nat_lt, slice_get}
 use Rattle.std.specs.Io.KnownBytes.{IsAtEnd}
 use Rattle.std.proofs.lemmas.Bool.{cases_lt, eq-eqb, lt-ltb, ne_eqb}
 use Rattle.std.proofs.lemmas.List.{length-map}
@@ -15,7 +15,7 @@ use Rattle.jv_program_base.specs.declared.failure.Failure.TheVariants.{Unreadabl
 use Rattle.jv_program_run.specs.declared.settings.RunSettings.{RunSettings}
 use Rattle.jv_program_run.specs.Feeding.{AreFeedsFrom, IsTooLong, feeds_to, is_no_guest}
 use Rattle.jv_program_run.specs.Guests.{NamedGuest}
-use Rattle.jv_program_run.specs.Outcome.{AreAllowed, IsFeedingFailure, IsGuestsFailure}
+use Rattle.jv_program_run.specs.Outcome.{AreAllowed, IsFeedingFailure, IsFirstWithin, IsGuestsFailure}
 use Rattle.jv_program_run.specs.Inside.Play.{HasRun, IsAdmitFailure, at_start}
 use Rattle.jv_program_run.specs.Inside.Turns.{AreAtStart, IsFedRun, IsFeedFailure, NoneFed, PlayedSince, ReadSoFar, SomeWent}
 use Rattle.jv_program_base.proofs.Places.{some_same, within}
@@ -169,8 +169,8 @@ module _ (s : RunSettings) (guests : List NamedGuest) (b0 : Option (List ℕ)) w
   not_admitted OutOfMemory h = absurd h
 
 module _ (s : RunSettings) (guests : List NamedGuest) (b0 b1 : Option (List ℕ)) where
-  first_allowed : AreAllowed (budget_of s.budget) guests (length guests) → AreAllowed (budget_of s.budget) guests 1
-  first_allowed all place named lt found = all place named (within guests place named found) found
+  first_allowed : AreAllowed (budget_of s.budget) guests (length guests) → IsFirstWithin (budget_of s.budget) guests
+  first_allowed all named found = (all 0 named (within guests 0 named found) found).0
 
   pub not_played : (failure : Failure) → AreAllowed (budget_of s.budget) guests (length guests) → IsFeedingFailure s.stdin guests b0 b1 failure
       → IsGuestsFailure s guests b0 b1 failure
@@ -183,3 +183,8 @@ module _ (s : RunSettings) (guests : List NamedGuest) (b0 b1 : Option (List ℕ)
   not_played TooManyFolders all h = absurd h
   not_played NoGuest all h = absurd h
   not_played OutOfMemory all h = absurd h
+
+  pub failed_later : {T : Type 0} (result : Result T Failure) → AreAllowed (budget_of s.budget) guests (length guests)
+      → IfErr result (IsFeedingFailure s.stdin guests b0 b1) → IfErr result (IsGuestsFailure s guests b0 b1)
+  failed_later (Ok t) all h = tt
+  failed_later (Err failure) all h = not_played failure all h

@@ -7,7 +7,7 @@ use Rattle.jv_meaning_machine.specs.Observation.{Observed, Shows}
 use Rattle.jv_host.specs.Started.{budget_of}
 use Rattle.jv_limits.specs.declared.fault.AdmitFault.{AdmitFault}
 use Rattle.jv_limits.specs.declared.fault.AdmitFault.TheVariants as refusals
-use Rattle.jv_host.specs.Limits.{IsRefused, first_refusal}
+use Rattle.jv_host.specs.Limits.{IsRefused, LibraryStands, first_refusal}
 use Rattle.jv_program_base.specs.declared.failure.Failure.{Failure}
 use Rattle.jv_program_base.specs.declared.failure.Failure.TheVariants.{Unreadable, StandardInput, LibraryRefused, Refused, FeedTooLong, TooManyFolders, NoGuest, HostMemory, OutOfMemory}
 use Rattle.jv_program_base.specs.declared.outcome.Outcome.{Outcome}
@@ -19,10 +19,15 @@ use Rattle.jv_program_run.specs.Instruction.{IsInstructionOfThrow}
 use Rattle.jv_program_run.specs.Json.{run_report}
 use Rattle.jv_program_run.specs.Report.{Told, raw_output, run_status}
 
--- each of the first guests is within the limits of a host that holds those before it
+-- each of the first guests is within the limits of a host that holds those before it, and its library stands beside its files
 abbrev pub AreAllowed : Budget → List NamedGuest → ℕ → Type 0
 AreAllowed b guests count =
-    (place : ℕ) (named : NamedGuest) → place < count → slice_get guests place ≡ Some named → first_refusal named.guest b place ≡ None
+    (place : ℕ) (named : NamedGuest) → place < count → slice_get guests place ≡ Some named
+    → (first_refusal named.guest b place ≡ None) × LibraryStands named.guest
+
+-- the first of the guests is within the limits of a host
+abbrev pub IsFirstWithin : Budget → List NamedGuest → Type 0
+IsFirstWithin b guests = (named : NamedGuest) → slice_get guests 0 ≡ Some named → first_refusal named.guest b 0 ≡ None
 
 -- What a guest that is fed so shows alone after some number of its own steps, each of which it took while it ran: as many as so many turns
 -- of at most n steps could have, or as there were to its end.
@@ -57,7 +62,7 @@ pub record IsToldOf (s : RunSettings) (feeds : List Feed) (rounds place : ℕ) (
   pub seen : IsRunAlone named.guest (budget_of s.budget) (feeds_to s.stdin feeds place) s.quantum rounds told.seen
   pub instruction : IsTrue (tells_places s) → IsInstructionOfThrow named.guest.files told.seen told.in_file.instruction
 
--- Guests within the limits had rounds of turns: all of them, or as many as there were until none ran, and no more. Of input with these
+-- Guests that are allowed had rounds of turns: all of them, or as many as there were until none ran, and no more. Of input with these
 -- bytes before and after, what was read was fed to the one guest that is fed. The report tells so of each guest, in JSON or not; in its
 -- place goes the output of the guest that is wanted as it is, where one is; and the status goes with what is told.
 pub record IsRunOutcome (s : RunSettings) (guests : List NamedGuest) (before after : Option (List ℕ)) (outcome : Outcome) : Type 0 where
@@ -103,7 +108,7 @@ IsFeedingFailure stdin guests before after HostMemory = stdin ≢ None
 IsFeedingFailure stdin guests before after failure = ⊥
 
 -- Why there is no report on guests: the host refused one, before anything was read; or, with all of them admitted, what was read for one
--- was too long, or nothing could be read; or the host had no memory, and would have the first of them at least; or the program had none.
+-- was too long, or nothing could be read; or the host had no memory, where the first of them is within its limits; or the program had none.
 abbrev pub IsGuestsFailure : RunSettings → List NamedGuest → (before after : Option (List ℕ)) → Failure → Type 0
 IsGuestsFailure s guests before after (Unreadable name) = ⊥
 IsGuestsFailure s guests before after (LibraryRefused name reason) = ⊥
@@ -113,5 +118,5 @@ IsGuestsFailure s guests before after FeedTooLong =
     AreAllowed (budget_of s.budget) guests (length guests) × IsOverfed s.stdin guests before after
 IsGuestsFailure s guests before after TooManyFolders = ⊥
 IsGuestsFailure s guests before after NoGuest = ⊥
-IsGuestsFailure s guests before after HostMemory = AreAllowed (budget_of s.budget) guests 1
+IsGuestsFailure s guests before after HostMemory = IsFirstWithin (budget_of s.budget) guests
 IsGuestsFailure s guests before after OutOfMemory = ⊤

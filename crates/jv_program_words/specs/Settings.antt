@@ -159,11 +159,12 @@ AskFor words asked = (fault_of command_line words ≡ []) × (asked_in words ≡
 abbrev pub IsAskedIn : (words : List (List ℕ)) → Settings → Type 0
 IsAskedIn words settings = AskFor words (asked_of settings)
 
--- The words are refused: by the library, in one of the kinds that its definition gives for them, or of want of memory; or they ask for
--- nothing, and are called out of range.
+-- The words are refused: by the library, in one of the kinds that its definition gives for them, or of want of memory; or the library
+-- takes them, and they ask for nothing, and are called out of range.
 abbrev pub AreRefused : (words : List (List ℕ)) → Error → Type 0
 AreRefused words error =
-    HasKind (fault_of command_line words) error ⊎ ((asked_in words ≡ None) × (kind_of error ≡ kinds.ValueValidation))
+    HasKind (fault_of command_line words) error
+    ⊎ ((fault_of command_line words ≡ []) × (asked_in words ≡ None) × (kind_of error ≡ kinds.ValueValidation))
 
 -- the words ask for help, or for the version
 abbrev pub AskForHelp : (words : List (List ℕ)) → Type 0

@@ -14,7 +14,7 @@ use Rattle.jv_program_run.specs.declared.settings.RunSettings.{RunSettings}
 use Rattle.jv_limits.specs.Bytes.{bytes_of}
 use Rattle.jv_program_run.specs.Feeding.{AreFeedsFrom, feeds_to}
 use Rattle.jv_program_run.specs.Guests.{NamedGuest}
-use Rattle.jv_program_run.specs.Outcome.{AreAllowed, IsRefusedAmong}
+use Rattle.jv_program_run.specs.Outcome.{IsFirstWithin, IsRefusedAmong}
 use Rattle.jv_program_run.specs.Instruction.{IsInstructionOfThrow}
 use Rattle.jv_program_run.specs.Report.{PlaceInFile as SaidInFile, Told}
 use Rattle.jv_program_run.specs.Inside.Turns.{PlayedSince, SomeWent}
@@ -38,10 +38,10 @@ pub record HasRun (s : RunSettings) (guests : List NamedGuest) (before after : O
   pub full : rounds < s.rounds → NoneRuns host
   pub needed : 1 ≤ s.quantum → SomeWent s.quantum rounds host
 
--- why a guest is not admitted: the host refuses it; or it had no memory, and would have the first guest at least
+-- why a guest is not admitted: the host refuses it; or it had no memory, where the first guest is within its limits
 abbrev pub IsAdmitFailure : Budget → List NamedGuest → Failure → Type 0
 IsAdmitFailure b guests (Refused fault) = IsRefusedAmong b guests fault
-IsAdmitFailure b guests HostMemory = AreAllowed b guests 1
+IsAdmitFailure b guests HostMemory = IsFirstWithin b guests
 IsAdmitFailure b guests failure = ⊥
 
 -- ---- reports

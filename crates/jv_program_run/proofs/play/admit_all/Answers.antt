@@ -1,4 +1,4 @@
-use Rattle.std.proofs.Common.{ap, ◌∙◌, map, Err}
+use Rattle.std.proofs.Common.{ap, ◌∙◌, map, Err, arith}
 use Rattle.jv_host.specs.Started.{budget_of}
 use Rattle.jv_host.specs.Files.{guest_of}
 use Rattle.jv_program_base.specs.Failure.{failure_of}
@@ -32,5 +32,12 @@ loop-guest-preserved c =
     let files = guest_of c.guest_files.result in
     record {
       held = held-more b guests k guest found c.loop-guest-test.true c.loop-guest.host c.loop-guest.invariant.held files c.guest_files.ensures c.admit.new.self told.admitted;
-      allowed = allowed_too b guests k guest found c.loop-guest-test.true c.loop-guest.host c.loop-guest.invariant.held files c.guest_files.ensures told.allowed c.loop-guest.invariant.allowed;
+      allowed =
+          allowed_too b guests k guest found c.loop-guest-test.true c.loop-guest.host c.loop-guest.invariant.held files c.guest_files.ensures
+          told.allowed told.stands c.loop-guest.invariant.allowed;
     }
+
+pub returns-clause-allowed : goal.returns-clause-allowed
+returns-clause-allowed c = λ place named lt there.
+    let done = c.loop-guest-test.false in
+    c.loop-guest.invariant.allowed place named (omega (arith, lt, done)) there

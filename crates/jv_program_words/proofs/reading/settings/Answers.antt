@@ -42,7 +42,9 @@ returns-in_default-2-clause-err c =
     let there : subcommand_rows_of m ≡ Some (command, rows) = both_found _ _ _ command rows c.in-Some.ensures.name c.in-Some.ensures.rows in
     let asked = found_in words m command rows has there in
     let by = c.in_ok-settings.ensures {u = tt} in
-    inr (asked ∙ sym by ∙ ap (option_map asked_of) c.in_default-2.is, c.in_ok-nothing_asked-2.ensures {u = tt})
+    let taken : fault_of command_line words ≡ [] =
+    subst (λ (line : App). fault_of line words ≡ []) c.in_ok-line.ensures (c.in_ok-matches.ensures.kinds (ap is_simple_and_free c.in_ok-line.ensures ∙ is_free)) in
+    inr (taken, asked ∙ sym by ∙ ap (option_map asked_of) c.in_default-2.is, c.in_ok-nothing_asked-2.ensures {u = tt})
 
 pub returns-clause-ok : goal.returns-clause-ok
 returns-clause-ok c =
