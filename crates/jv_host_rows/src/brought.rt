@@ -1,5 +1,6 @@
 //! What the guests of a row bring.
 
+use hex::FromHexError;
 use jv_host::Budget;
 use jv_loader::SystemFiles;
 use std::alloc::{AllocError, Global};
@@ -24,14 +25,14 @@ pub(crate) struct Lent<'a> {
 }
 
 /// The bytes that a word spells: in hexadecimal, none as `-`, or so many zeros as the number behind `*`.
-pub(crate) fn bytes_of(alloc: Global, word: &str) -> Vec<u8> {
-    let bytes = match word.strip_prefix('*') {
-        Some(count) => vec![in alloc; 0u8; number_of(count) as usize].ok(),
-        None => hex::decode(alloc, word).ok(),
-    };
-    match bytes {
-        Some(bytes) => bytes,
-        None => Vec::new(alloc),
+pub(crate) fn bytes_of(alloc: Global, word: &str) -> Result<Vec<u8>, AllocError> {
+    if let Some(count) = word.strip_prefix('*') {
+        return vec![in alloc; 0u8; number_of(count) as usize];
+    }
+    match hex::decode(alloc, word) {
+        Ok(bytes) => Ok(bytes),
+        Err(FromHexError::OutOfMemory) => Err(AllocError),
+        Err(_) => Ok(Vec::new(alloc)),
     }
 }
 
@@ -56,7 +57,7 @@ fn add_files(files: &mut Vec<Vec<u8>>, words: &str) -> Result<(), AllocError> {
     let alloc = *files.allocator();
     if !words.is_empty() {
         for word in words.split(' ') {
-            files.push(bytes_of(alloc, word))?;
+            files.push(bytes_of(alloc, word)?)?;
         }
     }
     Ok(())
@@ -72,8 +73,8 @@ fn brought_of(alloc: Global, line: &str) -> Result<Brought, AllocError> {
     let mut files = Vec::new(alloc);
     add_files(&mut files, rest)?;
     Ok(Brought {
-        main: bytes_of(alloc, main),
-        input: bytes_of(alloc, input),
+        main: bytes_of(alloc, main)?,
+        input: bytes_of(alloc, input)?,
         files,
         budget: Budget {
             cells: number_of(cells),

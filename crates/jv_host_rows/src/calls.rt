@@ -7,6 +7,9 @@ use jv_limits::{AdmitFault, FeedFault, TurnFault};
 use jv_store::Store;
 use std::alloc::AllocError;
 
+/// The most guests of a host, as `jv_host` has it.
+const GUESTS: u32 = 64;
+
 /// A guest's files as they are lent.
 fn files_of<'a>(lent: &'a Lent<'a>) -> GuestFiles<'a> {
     GuestFiles {
@@ -17,17 +20,47 @@ fn files_of<'a>(lent: &'a Lent<'a>) -> GuestFiles<'a> {
     }
 }
 
-/// Admits a guest as it is lent, once more where the host had no memory.
+/// Writes that the host had no memory for a call, behind so many steps, and what each of its guests shows then. The answer to the same
+/// call, made again, comes behind.
+fn write_refusal<S: Store>(
+    out: &mut String,
+    host: &Host<'_, S>,
+    steps: u64,
+) -> Result<(), AllocError> {
+    write!(out, "HostMemory {steps}\n")?;
+    for id in 0..GUESTS {
+        if host.observe(GuestId(id)).is_ok() {
+            out.push_str("  ")?;
+            write_guest(out, host, id)?;
+            out.push_str(", ")?;
+            write_verdicts(out, host, id)?;
+            out.push_str("\n")?;
+        }
+    }
+    out.push_str("again: ")
+}
+
+/// Asks a host to admit a guest as it is lent, once more where it had no memory.
+fn admission<'a, S: Store>(
+    out: &mut String,
+    host: &mut Host<'a, S>,
+    lent: &'a Lent<'a>,
+) -> Result<Result<GuestId, AdmitFault>, AllocError> {
+    let mut answer = host.admit(files_of(lent), lent.budget);
+    if matches!(&answer, Err(AdmitFault::HostMemory)) {
+        write_refusal(out, host, 0)?;
+        answer = host.admit(files_of(lent), lent.budget);
+    }
+    Ok(answer)
+}
+
+/// Admits a guest as it is lent, and writes its number.
 pub(crate) fn write_admission<'a, S: Store>(
     out: &mut String,
     host: &mut Host<'a, S>,
     lent: &'a Lent<'a>,
 ) -> Result<(), AllocError> {
-    let mut answer = host.admit(files_of(lent), lent.budget);
-    if matches!(&answer, Err(AdmitFault::HostMemory)) {
-        answer = host.admit(files_of(lent), lent.budget);
-    }
-    match answer {
+    match admission(out, host, lent)? {
         Ok(id) => write!(out, "guest {}", id.0),
         Err(fault) => out.push_str(fault.name()),
     }
@@ -39,7 +72,7 @@ fn write_judgement<'a, S: Store>(
     host: &mut Host<'a, S>,
     lent: &'a Lent<'a>,
 ) -> Result<(), AllocError> {
-    match host.admit(files_of(lent), lent.budget) {
+    match admission(out, host, lent)? {
         Ok(id) => write_verdicts(out, host, id.0),
         Err(fault) => out.push_str(fault.name()),
     }
@@ -55,8 +88,11 @@ fn write_turn<S: Store>(
     let mut before: u64 = 0;
     let mut answer = host.turn(GuestId(id), n);
     if let Err(TurnFault::HostMemory(taken)) = answer {
+        write_refusal(out, host, taken)?;
         before = taken;
-        answer = host.turn(GuestId(id), n);
+        if let Ok(taken) = u32::try_from(taken) {
+            answer = host.turn(GuestId(id), n.saturating_sub(taken));
+        }
     }
     match answer {
         Ok(steps) => write!(out, "{}", steps.saturating_add(before)),
@@ -64,13 +100,19 @@ fn write_turn<S: Store>(
     }
 }
 
+/// Gives all guests turns, and once more where the host had no memory: the answer is of the rounds behind.
 fn write_run<S: Store>(
     out: &mut String,
     host: &mut Host<'_, S>,
     quantum: u32,
     rounds: u32,
 ) -> Result<(), AllocError> {
-    match host.run(quantum, rounds) {
+    let mut answer = host.run(quantum, rounds);
+    if let Err(TurnFault::HostMemory(taken)) = answer {
+        write_refusal(out, host, taken)?;
+        answer = host.run(quantum, rounds);
+    }
+    match answer {
         Ok(begun) => write!(out, "{begun}"),
         Err(fault) => out.push_str(fault.name()),
     }
@@ -85,6 +127,7 @@ fn write_feed<S: Store>(
 ) -> Result<(), AllocError> {
     let mut answer = host.feed(GuestId(id), bytes);
     if matches!(answer, Err(FeedFault::HostMemory)) {
+        write_refusal(out, host, 0)?;
         answer = host.feed(GuestId(id), bytes);
     }
     match answer {
@@ -115,7 +158,7 @@ fn write_answer<'a, S: Store>(
         },
         "turn" => write_turn(out, host, number, number_of(second)),
         "run" => write_run(out, host, number, number_of(second)),
-        "feed" => write_feed(out, host, number, &bytes_of(alloc, second)),
+        "feed" => write_feed(out, host, number, &bytes_of(alloc, second)?),
         "verdicts" => write_verdicts(out, host, number),
         "seen" => write_guest(out, host, number),
         _ => out.push_str("is no call"),

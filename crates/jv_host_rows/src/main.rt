@@ -6,7 +6,8 @@
 //! `beside` which files each guest of the row brings behind its own; neither is shown. Each other line is a call on the host, and is shown
 //! with its answer. Each row is played in one host over blocks that can be refused, and in one over cells; where the answers differ, both
 //! are shown. Behind a row that ends with the line `damage` its first guest's file is damaged in many ways, and how often what came of it
-//! is shown.
+//! is shown. Where a host has no memory for a call, that is shown with what its guests show then, and the call is made again:
+//! `scripts/refused-rows/run` refuses each allocation of some rows in turn.
 #![tactic(auto)]
 
 mod brought;
