@@ -67,7 +67,7 @@ pub(crate) fn index_behind(code: &[u8], pc: usize) -> u16
     ensures stands { HasBytes code.now (pc + 1) (half.spelling result) }
     ensures fits { IsTrue (half.fits result) }
 {
-    u16::from(code[pc + 1]) * 256 + u16::from(code[pc + 2])
+    u16::from_be_bytes([code[pc + 1], code[pc + 2]])
 }
 
 /// The index in the byte behind the opcode at an offset.

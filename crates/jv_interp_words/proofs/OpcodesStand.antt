@@ -52,13 +52,13 @@ both_fit true false h k = k
 both_fit false b h k = h
 
 pub half_spelled :
-    (code : List ℕ) (at a b : ℕ) → at + 2 ≤ length code → b < 256 → a ≡ get_or code at 0 → b ≡ get_or code (at + 1) 0
-    → HasBytes code at ((a * 256 + b) / 256 ∷ (a * 256 + b) % 256 ∷ [])
-half_spelled code at a b h small e f =
-    let first : get_or code at 0 ≡ (a * 256 + b) / 256 = sym e ∙ omega (arith, small) in
-    let second : get_or code (at + 1) 0 ≡ (a * 256 + b) % 256 = sym f ∙ omega (arith, small) in
-    subst (λ (n : ℕ). HasBytes code at (n ∷ (a * 256 + b) % 256 ∷ [])) first
-    (subst (λ (n : ℕ). HasBytes code at (get_or code at 0 ∷ n ∷ [])) second (two_stand code at h))
+    (code : List ℕ) (at n : ℕ) → at + 2 ≤ length code → get_or code (at + 1) 0 < 256 → n ≡ get_or code at 0 * 256 + get_or code (at + 1) 0
+    → HasBytes code at (n / 256 ∷ n % 256 ∷ [])
+half_spelled code at n h small e =
+    let first : get_or code at 0 ≡ n / 256 = omega (arith, small, e) in
+    let second : get_or code (at + 1) 0 ≡ n % 256 = omega (arith, small, e) in
+    subst (λ (a : ℕ). HasBytes code at (a ∷ n % 256 ∷ [])) first
+    (subst (λ (b : ℕ). HasBytes code at (get_or code at 0 ∷ b ∷ [])) second (two_stand code at h))
 
 -- an instruction's offset has 16 bits
 pub offset_small : (at : Registers) (words : List ℕ) → CanStep at words → at.pc < 65536

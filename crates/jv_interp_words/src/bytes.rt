@@ -43,7 +43,7 @@ pub(crate) fn half_at(code: &[u8], at: usize) -> u16
     requires { at + 2 ≤ length code.now }
     ensures { HasBytes code.now at (half.spelling result) }
 {
-    u16::from(code[at]) * 256 + u16::from(code[at + 1])
+    u16::from_be_bytes([code[at], code[at + 1]])
 }
 
 /// The signed number in the byte at an offset.
@@ -92,10 +92,7 @@ fn quad_at(code: &[u8], at: usize) -> u32
     requires { at + 4 ≤ length code.now }
     ensures { result ≡ quad_there code.now at }
 {
-    u32::from(code[at]) * 16_777_216
-        + u32::from(code[at + 1]) * 65_536
-        + u32::from(code[at + 2]) * 256
-        + u32::from(code[at + 3])
+    u32::from_be_bytes([code[at], code[at + 1], code[at + 2], code[at + 3]])
 }
 
 /// The signed number in the four bytes at an offset.

@@ -4,5 +4,5 @@ use Rattle.jv_interp_words.proofs.bytes.half_at.Goals as goal
 
 pub returns : goal.returns
 returns c =
-    half_spelled c.args.code.now c.args.at c.from.result c.from-2.result c.requires
-    (omega (arith, c.type_inv.code (c.args.at + 1), c.from-2.ensures)) c.from.ensures c.from-2.ensures
+    half_spelled c.args.code.now c.args.at c.from_be_bytes.result c.requires (omega (arith, c.type_inv.code (c.args.at + 1)))
+    c.from_be_bytes.ensures
