@@ -13,7 +13,7 @@ use Rattle.jv_meaning_world.specs.Overriding.{alike_in, declared_if, is_instance
 use Rattle.jv_meaning_world.specs.Verdicts.{declared_by, is_final_instance}
 use Rattle.jv_meaning_world.specs.World.{Loaded, World, same_package}
 use Rattle.jv_explain.specs.Finals.{breaks_itself, broken_among, broken_in, broken_text, final_line, overridden_by}
-use Rattle.jv_explain.specs.Inside.Overridden.{as_method}
+use Rattle.jv_lookups.specs.Inside.Steps.{as_method}
 
 pub some_and : {X : Type 0} (o : Option X) (P Q : X → Type 0) → IsSomeAnd o P → ((x : X) → o ≡ Some x → P x → Q x) → IsSomeAnd o Q
 some_and None P Q h f = absurd h

@@ -4,24 +4,20 @@ ghost use Rattle.std.specs.Prelude.{◌≡◌, ◌<◌, Some, IfOk, IfSome, leng
 ghost use Rattle.std.specs.Option.{IsSomeAnd, option_and_then};
 ghost use Rattle.jv_meaning_world.specs.Above.{superclasses};
 ghost use Rattle.jv_meaning_world.specs.Numbers.{HoldsAtNumber};
-ghost use Rattle.jv_meaning_world.specs.Overriding.{is_instance, overrides_itself};
-ghost use Rattle.jv_meaning_world.specs.Verdicts.{declared_by, is_final_instance};
+ghost use Rattle.jv_meaning_world.specs.Overriding.{overrides_itself};
+ghost use Rattle.jv_meaning_world.specs.Verdicts.{declared_by};
 ghost use Rattle.jv_explain.specs.Finals.{breaks_itself, broken_among, broken_in, broken_text, finals_text};
-ghost use Rattle.jv_explain.specs.Inside.Overridden.{as_method, overridden_line, overridden_text};
+ghost use Rattle.jv_explain.specs.Inside.Overridden.{overridden_line, overridden_text};
+ghost use Rattle.jv_lookups.specs.Inside.Steps.{as_method};
 
 use bitflags::Flags;
 use jv_class_structure::MethodFlags;
 use jv_classes::{LoadedClass, Member};
 use jv_loader::{ClassTable, LoadVerdict};
+use jv_lookups::{is_final_instance, is_instance, is_overridden};
 use jv_program_base::Escaped;
 use std::alloc::{AllocError, Global};
 use std::fmt;
-
-// public and protected
-const OPEN: MethodFlags = MethodFlags(0x0005);
-
-// public, private and protected
-const SOME_ACCESS: MethodFlags = MethodFlags(0x0007);
 
 /// A final method of a superclass that is overridden, with the name of that class.
 #[derive(Clone, Copy)]
@@ -44,21 +40,6 @@ impl fmt::Display for Overridden<'_> {
     }
 }
 
-/// Whether it is an instance method, not `<init>`.
-fn is_instance(method: &Member<'_>) -> bool
-    ensures { result ≡ is_instance (as_method method.now) }
-{
-    !MethodFlags(method.access_flags).intersects(MethodFlags::STATIC)
-        && method.name != b"<init>".as_slice()
-}
-
-/// Whether it is a final instance method.
-fn is_final_instance(method: &Member<'_>) -> bool
-    ensures { result ≡ is_final_instance (as_method method.now) }
-{
-    MethodFlags(method.access_flags).intersects(MethodFlags::FINAL) && is_instance(method)
-}
-
 /// Whether a method of a class overrides one of a superclass itself, which has its name and descriptor.
 fn overrides_itself(
     own: &LoadedClass<'_>,
@@ -69,8 +50,7 @@ fn overrides_itself(
     ensures { result ≡ overrides_itself (declared_by own.now (as_method method.now)) (declared_by of.now (as_method other.now)) }
 {
     !MethodFlags(method.access_flags).intersects(MethodFlags::PRIVATE)
-        && (MethodFlags(other.access_flags).intersects(OPEN)
-            || (!MethodFlags(other.access_flags).intersects(SOME_ACCESS) && own.same_package(of)))
+        && is_overridden(own.same_package(of), other.access_flags)
 }
 
 /// Whether the method at a place of a superclass is final, and the class overrides it itself.

@@ -23,6 +23,7 @@ pub use field::lookup_field;
 pub use finals::{breaks_final, final_declarers};
 pub use keys::{FinalKeys, final_keys};
 pub use marks::Marks;
+pub use member::{is_final_instance, is_instance, is_overridden};
 pub use method::{class_method, lookup_method, method_of_object};
 pub use packages::package_numbers;
 pub use place::Place;

@@ -33,16 +33,16 @@ impl Drop for NamedMethod<'_, '_> {
     }
 }
 
-/// Whether it is an instance method, not `<init>`.
-pub(crate) fn is_instance(method: &Member<'_>) -> bool
+/// Whether it is an instance method, not `<init>` (JVMS 2.9, 4.6).
+pub fn is_instance(method: &Member<'_>) -> bool
     ensures { result ≡ is_instance (as_method method.now) }
 {
     !MethodFlags(method.access_flags).intersects(MethodFlags::STATIC)
         && method.name != b"<init>".as_slice()
 }
 
-/// Whether it is a final instance method.
-pub(crate) fn is_final_instance(method: &Member<'_>) -> bool
+/// Whether it is a final instance method (JVMS 4.6).
+pub fn is_final_instance(method: &Member<'_>) -> bool
     ensures { result ≡ is_final_instance (as_method method.now) }
 {
     MethodFlags(method.access_flags).intersects(MethodFlags::FINAL) && is_instance(method)
@@ -57,7 +57,7 @@ pub(crate) fn can_override(method: &Member<'_>) -> bool
 
 /// Whether a method with these flags is overridden, where `found` says whether its package is among
 /// those found (JVMS 5.4.5).
-pub(crate) fn is_overridden(found: bool, access_flags: u16) -> bool
+pub fn is_overridden(found: bool, access_flags: u16) -> bool
     ensures { result ≡ is_overridden_if found access_flags }
 {
     MethodFlags(access_flags).intersects(OPEN)

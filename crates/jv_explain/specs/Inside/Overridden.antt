@@ -1,13 +1,7 @@
 -- A final method that is overridden, as the code finds it.
 use Rattle.std.specs.Prelude.{ℕ, List, [], Option, Some, None}
-use Rattle.jv_class.specs.Class.{Method}
-use Rattle.jv_classes.specs.declared.member.Member.{Member}
 use Rattle.jv_explain.specs.Finals.{final_line}
 use Rattle.jv_explain.specs.declared.finals.Overridden.{Overridden}
-
--- what a member shows of its method
-abbrev pub as_method : Member → Method
-as_method member = record { access_flags = member.access_flags; name = member.name.now; descriptor = member.descriptor.now; code = None }
 
 abbrev pub overridden_line : Overridden → List ℕ
 overridden_line shown = final_line shown.method.name.now shown.method.descriptor.now shown.class.now
