@@ -8,7 +8,7 @@ use Rattle.jv_meaning_machine.specs.Laws.Shown.{ShowsOneThing}
 use Rattle.jv_meaning_machine.specs.Laws.Feeds.{SameBytesShowTheSame}
 use Rattle.jv_host.specs.Host.{Admission}
 use Rattle.jv_host.specs.Calls.{IsShown}
-use Rattle.jv_host.specs.Worlds.{AreAlike, TwoWorlds}
+use Rattle.jv_host.specs.Worlds.{TwoWorlds}
 
 -- what is shown of a guest, it shows alone
 shown_alone :

@@ -1,9 +1,7 @@
 -- An exception that the machine makes joins the objects of a memory (JVMS 2.4; own).
-use Rattle.std.proofs.Common.{◌≡◌, ℕ, zero, suc, get_or, ◌+◌, ◌-◌, ◌<◌, ◌≤◌, nat_le, Bool, true, false, List, [], ◌∷◌, ◌++◌, Option, Some, None, length, drop, replicate, slice_get, refl, sym, ap, subst, ◌∙◌, arith, append-nil, if◌then◌else◌}
+use Rattle.std.proofs.Common.{◌≡◌, ℕ, ◌+◌, ◌-◌, ◌<◌, ◌≤◌, nat_le, Bool, true, false, List, [], ◌∷◌, ◌++◌, Option, Some, None, length, drop, replicate, slice_get, refl, sym, ap, subst, ◌∙◌, arith, append-nil, if◌then◌else◌}
 use Rattle.std.specs.Prelude.{unwrap_or, vec_capacity}
 use Rattle.std.proofs.lemmas.Grind.{common_steps}
-use Rattle.jv_store.specs.Content.{words_at, greatest}
-use Rattle.jv_store.proofs.LookUps.{greatest-append_above}
 use Rattle.jv_meaning_world.specs.World.{Loaded, World}
 use Rattle.jv_meaning_typing.specs.Layout.{object_words, object_cells}
 use Rattle.jv_meaning_machine.specs.Objects.{Object, made_object}
@@ -13,9 +11,7 @@ use Rattle.jv_meaning_machine.specs.Effects.{out_of_memory}
 use Rattle.jv_meaning_machine.specs.Literals.{literal_in}
 use Rattle.jv_meaning_machine.specs.Throws.{exception_made}
 use Rattle.jv_interp_heap.specs.ObjectsInBlocks.{Blocks, HasNumber, ObjectsStand}
-use Rattle.jv_interp_heap.specs.NewBlocks.{Joins}
 use Rattle.jv_interp_heap.proofs.Grown.{get_more, fields_grown}
-use Rattle.jv_interp_heap.proofs.Joined.{others_stay}
 use Rattle.jv_interp_heap.proofs.NewObjects.{instance_joined}
 use Rattle.jv_interp_held.specs.declared.held.Held.{Held}
 use Rattle.jv_interp_held.specs.HeldInWords.{static_fields, IsLiteral, AreLiterals, MemoryStands}

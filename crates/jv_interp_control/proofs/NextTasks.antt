@@ -9,7 +9,6 @@ use Rattle.jv_meaning_world.specs.World.{Loaded, World}
 use Rattle.jv_meaning_world.specs.Verdicts.{declared_by}
 use Rattle.jv_meaning_typing.specs.InitializationOrder.{init_order}
 use Rattle.jv_classes.proofs.Followed.{some_class}
-use Rattle.jv_lookups.specs.Places.{method_at}
 use Rattle.jv_lookups.proofs.Found.{one_class_more, no_class_left}
 use Rattle.jv_link.specs.Orders.{IsOrder}
 use Rattle.jv_link_cache.specs.declared.linked.Linked.{Linked}

@@ -1,30 +1,26 @@
 -- Loads from arrays, as instructions.
-use Rattle.std.proofs.Common.{◌≡◌, ℕ, Bool, true, false, zero, suc, List, refl, sym, ap, subst, ◌∙◌}
+use Rattle.std.proofs.Common.{◌≡◌, ℕ, true, zero, List, refl, sym, subst}
 use Rattle.jv_text.specs.declared.descriptor.Base.TheVariants as bases
 use Rattle.jv_text.specs.declared.descriptor.Element.{Element}
 use Rattle.jv_text.specs.declared.descriptor.Element.TheVariants as elements
 use Rattle.jv_text.specs.declared.descriptor.FieldTypeOf.{FieldTypeOf}
 use Rattle.jv_stackmap.specs.Types.{FrameType, value_type, width}
 use Rattle.jv_stackmap.specs.declared.verification.VerificationTypeOf.TheVariants as types
-use Rattle.jv_code.specs.Insns.{Instruction}
 use Rattle.jv_code.specs.declared.insn.Insn.TheVariants as insns
 use Rattle.jv_code.specs.declared.kinds.NumberElement.{NumberElement}
 use Rattle.jv_code.specs.declared.kinds.NumberElement.TheVariants as numbers
 use Rattle.jv_meaning_typing.specs.FrameChanges.{is_reference}
 use Rattle.jv_meaning_machine.specs.Laws.Steps.{ExecutionKeeps}
-use Rattle.jv_meaning_machine.specs.State.{Memory}
-use Rattle.jv_meaning_machine.specs.Effects.{Effect as EffectOfNames, Context}
-use Rattle.jv_meaning_machine.specs.Arrays.{holds_by, holds_numbers, holds_references, array_length, load_component}
+use Rattle.jv_meaning_machine.specs.Arrays.{holds_by, holds_numbers, holds_references}
 use Rattle.jv_interp_words.specs.declared.registers.Registers.{Registers}
 use Rattle.jv_interp_heap.specs.ObjectsInBlocks.{Blocks}
 use Rattle.jv_interp_held.specs.declared.held.Held.{Held}
 use Rattle.jv_interp_held.specs.declared.effect.Effect.{Effect}
-use Rattle.jv_interp_held.specs.Executing.{Place, place}
-use Rattle.jv_interp_objects.specs.Loads.{Measuring, CanMeasure, Measures, Loading, CanLoad, Loads}
+use Rattle.jv_interp_held.specs.Executing.{place}
+use Rattle.jv_interp_objects.specs.Loads.{CanMeasure, Measures, CanLoad, Loads}
 use Rattle.jv_interp_members.specs.Known.{Known}
 use Rattle.jv_interp_instructions.specs.Components.{number_words}
-use Rattle.jv_interp_instructions.specs.OnWords.{part_of}
-use Rattle.jv_interp_instructions.specs.InGuest.{ExecutesIn, CanExecute, Executed}
+use Rattle.jv_interp_instructions.specs.InGuest.{CanExecute, Executed}
 use Rattle.jv_interp_instructions.proofs.Grown.{guests, did_same}
 
 pub number_slots : (kind : NumberElement) (type : FieldTypeOf (List ℕ)) → holds_numbers kind type ≡ true → width (value_type type) ≡ number_words kind

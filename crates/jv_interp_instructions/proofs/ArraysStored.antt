@@ -1,5 +1,5 @@
 -- Stores of numbers into arrays, as instructions.
-use Rattle.std.proofs.Common.{◌≡◌, ℕ, true, zero, suc, List, refl, sym, subst}
+use Rattle.std.proofs.Common.{◌≡◌, ℕ, true, zero, List, refl, sym, subst}
 use Rattle.jv_text.specs.declared.descriptor.Base.TheVariants as bases
 use Rattle.jv_text.specs.declared.descriptor.Element.{Element}
 use Rattle.jv_text.specs.declared.descriptor.Element.TheVariants as elements
@@ -20,7 +20,7 @@ use Rattle.jv_interp_heap.specs.Narrowing.{narrowing_at}
 use Rattle.jv_interp_held.specs.declared.held.Held.{Held}
 use Rattle.jv_interp_held.specs.declared.effect.Effect.{Effect}
 use Rattle.jv_interp_heap.specs.SystemNumbers.{IsGuestsWorld}
-use Rattle.jv_interp_objects.specs.Stores.{Storing, NarrowsBy, CanStore, Stores, CanStoreByte, StoresByte}
+use Rattle.jv_interp_objects.specs.Stores.{Storing, CanStore, Stores, CanStoreByte, StoresByte}
 use Rattle.jv_interp_members.specs.Known.{Known}
 use Rattle.jv_interp_held.specs.Executing.{place}
 use Rattle.jv_interp_instructions.specs.InGuest.{ExecutesIn, CanExecute, Executed}

@@ -18,7 +18,6 @@ use Rattle.jv_interp_held.specs.declared.class_state.ClassState.{ClassState}
 use Rattle.jv_interp_held.specs.ClassStates.{AreClassStates}
 use Rattle.jv_interp_held.specs.declared.held.Held.{Held}
 use Rattle.jv_interp_held.specs.declared.effect.Effect.{Effect}
-use Rattle.jv_interp_held.specs.Growing.{DidIn}
 use Rattle.jv_link.specs.declared.site.Site.{Site}
 use Rattle.jv_link_cache.specs.declared.linked.Linked.{Linked}
 use Rattle.jv_link_cache.specs.Linked.{IsLinked}

@@ -1,5 +1,5 @@
 -- What was done on words is what the machine did.
-use Rattle.std.proofs.Common.{◌≡◌, ℕ, ℤ, true, ◌+◌, List, [], ◌∷◌, ◌++◌, Option, Some, None, Ok, length, reverse, codes, refl, sym, ap, subst, ◌∙◌, append-nil, append_assoc, arith}
+use Rattle.std.proofs.Common.{◌≡◌, ℕ, ℤ, true, ◌+◌, List, [], ◌∷◌, ◌++◌, Option, Some, None, Ok, reverse, refl, sym, ap, subst, ◌∙◌, append-nil, append_assoc, arith}
 use Rattle.jv_text.specs.declared.descriptor.FieldTypeOf.{FieldTypeOf}
 use Rattle.jv_stackmap.specs.Types.{FrameType, value_type}
 use Rattle.jv_code.specs.Insns.{Instruction}
@@ -10,16 +10,16 @@ use Rattle.jv_code.specs.declared.kinds.ValueKind.{ValueKind}
 use Rattle.jv_code.specs.declared.kinds.ValueKind.TheVariants as kinds
 use Rattle.jv_meaning_typing.specs.FrameChanges.{is_of_kind}
 use Rattle.jv_meaning_machine.specs.Faults.{OrFault, tested, ◌>>=◌}
-use Rattle.jv_meaning_machine.specs.Faults.Fault.{ReturnFault, TagFault}
+use Rattle.jv_meaning_machine.specs.Faults.Fault.{ReturnFault}
 use Rattle.jv_meaning_machine.specs.Values.{Value, value_words, words_of_values, has_type}
 use Rattle.jv_meaning_machine.specs.State.{Memory}
-use Rattle.jv_meaning_machine.specs.Operands.{popped, popped_as, taken_as, usable_value}
+use Rattle.jv_meaning_machine.specs.Operands.{taken_as}
 use Rattle.jv_meaning_machine.specs.Effects.{Effect, Context, division_by_zero}
 use Rattle.jv_meaning_machine.specs.Effects.Effect.{Goes, Leaves, Raises}
-use Rattle.jv_meaning_machine.specs.Instructions.{execute, return_value, return_nothing}
+use Rattle.jv_meaning_machine.specs.Instructions.{return_value, return_nothing}
 use Rattle.jv_interp_words.specs.declared.registers.Registers.{Registers}
-use Rattle.jv_interp_words.specs.ValuesInWords.{IsOnTop, AreOnTop}
-use Rattle.jv_interp_words.specs.FramesInWords.{in_use, FrameStands}
+use Rattle.jv_interp_words.specs.ValuesInWords.{AreOnTop}
+use Rattle.jv_interp_words.specs.FramesInWords.{in_use}
 use Rattle.jv_interp_words.proofs.Gave.{bound_gave, tested_gave}
 use Rattle.jv_interp_words.proofs.Stacks.{stack_above}
 use Rattle.jv_interp_words.proofs.Taken.{taken_gave}
@@ -29,8 +29,8 @@ use Rattle.jv_interp_held.specs.declared.effect.Effect.TheVariants as effects
 use Rattle.jv_interp_heap.specs.declared.numbers.TheConstants.{ARITHMETIC}
 use Rattle.jv_interp_held.specs.EffectsInWords.{EffectStands}
 use Rattle.jv_interp_held.specs.HeldInWords.{MemoryStands}
-use Rattle.jv_interp_heap.specs.SystemNumbers.{IsGuestsWorld, AreSystemNumbers, SystemHasNumbers}
-use Rattle.jv_interp_held.specs.Executing.{Place, place, Executes, Did}
+use Rattle.jv_interp_heap.specs.SystemNumbers.{SystemHasNumbers}
+use Rattle.jv_interp_held.specs.Executing.{place, Did}
 use Rattle.jv_interp_held.proofs.Raised.{raised}
 use Rattle.jv_interp_members.proofs.Putting.{taken_kind}
 use Rattle.jv_interp_heap.proofs.Widths.{typed_words}

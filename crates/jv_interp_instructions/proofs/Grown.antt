@@ -1,7 +1,5 @@
 -- What stands of other guests where an instruction makes no object.
-use Rattle.std.proofs.Common.{◌≡◌, ℕ, ◌<◌, ◌≤◌, List, [], ◌∷◌, ◌++◌, length, refl, sym, ap, subst, ◌∙◌, arith}
-use Rattle.std.specs.Prelude.{Contains}
-use Rattle.jv_store.specs.Content.{words_at, greatest}
+use Rattle.std.proofs.Common.{◌≡◌, ℕ, List, [], refl, sym, subst}
 use Rattle.jv_code.specs.Insns.{Instruction}
 use Rattle.jv_meaning_world.specs.World.{World}
 use Rattle.jv_meaning_machine.specs.Laws.Steps.{ExecutionKeeps}
@@ -16,7 +14,7 @@ use Rattle.jv_interp_held.specs.Growing.{Grows, DidIn}
 use Rattle.jv_interp_held.proofs.Growths.{grows_not}
 use Rattle.jv_interp_heap.specs.SystemNumbers.{IsGuestsWorld}
 use Rattle.jv_interp_members.specs.Known.{Known}
-use Rattle.jv_interp_instructions.specs.OnWords.{part_of, ExecutesInsn, DoneOnWords}
+use Rattle.jv_interp_instructions.specs.OnWords.{DoneOnWords}
 use Rattle.jv_interp_instructions.specs.InGuest.{ExecutesIn, Executed}
 use Rattle.jv_interp_instructions.proofs.Unpaid.{no_more}
 

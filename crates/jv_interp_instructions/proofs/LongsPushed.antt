@@ -5,7 +5,7 @@ use Rattle.std.specs.Option.{option_map}
 use Rattle.jv_pool.specs.Constants.{long_at}
 use Rattle.jv_code.specs.declared.insn.Insn.TheVariants as insns
 use Rattle.jv_meaning_world.specs.World.{World}
-use Rattle.jv_meaning_machine.specs.Faults.{OrFault, found, ◌>>=◌}
+use Rattle.jv_meaning_machine.specs.Faults.{found, ◌>>=◌}
 use Rattle.jv_meaning_machine.specs.Faults.Fault.{OffsetFault}
 use Rattle.jv_meaning_machine.specs.Values.Value.{Long}
 use Rattle.jv_meaning_machine.specs.State.{Memory}
@@ -16,7 +16,6 @@ use Rattle.jv_link.specs.declared.site.Site.{Site}
 use Rattle.jv_link.specs.Seen.{place_of}
 use Rattle.jv_interp_words.specs.declared.registers.Registers.{Registers}
 use Rattle.jv_interp_words.specs.ValuesInWords.{long_of}
-use Rattle.jv_interp_words.proofs.Gave.{bound_gave}
 use Rattle.jv_interp_heap.specs.ObjectsInBlocks.{Blocks}
 use Rattle.jv_interp_held.specs.declared.held.Held.{Held}
 use Rattle.jv_interp_held.specs.declared.effect.Effect.{Effect}

@@ -2,8 +2,6 @@
 use Rattle.std.proofs.Common.{ℕ, List, refl}
 use Rattle.jv_code.specs.declared.insn.Insn.TheVariants as insns
 use Rattle.jv_meaning_machine.specs.Laws.Steps.{ExecutionKeeps}
-use Rattle.jv_meaning_machine.specs.State.{Memory}
-use Rattle.jv_meaning_machine.specs.Effects.{Effect as EffectOfNames, Context}
 use Rattle.jv_interp_words.specs.declared.registers.Registers.{Registers}
 use Rattle.jv_interp_heap.specs.ObjectsInBlocks.{Blocks}
 use Rattle.jv_interp_held.specs.declared.class_state.ClassState.{ClassState}
@@ -16,7 +14,7 @@ use Rattle.jv_interp_objects.specs.Throwing.{Throws}
 use Rattle.jv_interp_objects.specs.Storing.{Stores}
 use Rattle.jv_interp_objects.specs.Making.{MakesObject, MakesArray, MakesArrays}
 use Rattle.jv_interp_instructions.specs.OnWords.{part_of}
-use Rattle.jv_interp_instructions.specs.InGuest.{ExecutesIn, Executed, ExecutedAt}
+use Rattle.jv_interp_instructions.specs.InGuest.{Executed, ExecutedAt}
 use Rattle.jv_interp_instructions.proofs.Grown.{did_same, guests}
 
 module _ (kept : ExecutionKeeps) (next : ℕ) (k : Known) (texts : List (List ℕ)) (at : Registers) (words : List ℕ) (held : Held) (blocks : Blocks) where

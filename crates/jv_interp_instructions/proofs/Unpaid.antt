@@ -1,6 +1,6 @@
 -- An instruction that pays no cells makes no object.
-use Rattle.std.proofs.Common.{◌≡◌, ℕ, zero, suc, ◌+◌, ◌≤◌, List, [], ◌∷◌, ◌++◌, Ok, length, map, refl, sym, ap, subst, ◌∙◌, arith, length-append}
-use Rattle.std.specs.Prelude.{sum_by, Contains}
+use Rattle.std.proofs.Common.{◌≡◌, ℕ, ◌+◌, ◌≤◌, List, [], ◌∷◌, ◌++◌, Ok, length, refl, sym, ap, ◌∙◌, arith, length-append}
+use Rattle.std.specs.Prelude.{sum_by}
 use Rattle.std.proofs.lemmas.List.{length-map}
 use Rattle.std.proofs.lemmas.List.Sums.{sum_by-cons, sum_by-append}
 use Rattle.jv_code.specs.Insns.{Instruction}
@@ -10,7 +10,6 @@ use Rattle.jv_meaning_machine.specs.Effects.{Effect, Context}
 use Rattle.jv_meaning_machine.specs.Instructions.{execute}
 use Rattle.jv_meaning_machine.specs.Laws.Shapes.{Shape, shape_of, shapes, shape_cells, used_cells}
 use Rattle.jv_meaning_machine.specs.Laws.Shapes.Shape.{ObjectShape, ArrayShape}
-use Rattle.jv_meaning_machine.specs.Laws.Kept.{Keeps}
 use Rattle.jv_meaning_machine.specs.Laws.Steps.{ExecutionKeeps}
 use Rattle.jv_interp_heap.specs.ObjectsInBlocks.{Blocks}
 use Rattle.jv_interp_held.specs.declared.held.Held.{Held}

@@ -1,7 +1,7 @@
 -- Arguments on the words of a frame, and the receiver below them.
-use Rattle.std.proofs.Common.{◌≡◌, ℕ, suc, ◌+◌, ◌-◌, ◌≤◌, List, [], ◌∷◌, ◌++◌, length, reverse, refl, sym, ap, subst, ◌∙◌, get_or, arith, length-append, append_assoc}
+use Rattle.std.proofs.Common.{◌≡◌, ℕ, ◌+◌, ◌-◌, ◌≤◌, List, [], ◌∷◌, ◌++◌, length, reverse, refl, sym, ap, subst, ◌∙◌, get_or, arith, length-append}
 use Rattle.std.specs.List.{flat_map}
-use Rattle.std.proofs.lemmas.List.{reverse-append, length-reverse}
+use Rattle.std.proofs.lemmas.List.{length-reverse}
 use Rattle.jv_meaning_machine.specs.Values.{Value}
 use Rattle.jv_meaning_machine.specs.Frames.{local_words}
 use Rattle.jv_interp_words.specs.ValuesInWords.{IsOnTop, AreOnTop}
@@ -11,7 +11,7 @@ use Rattle.jv_interp_words.proofs.Passed.{all_first}
 use Rattle.jv_interp_words.proofs.Stacks.{stack_split, stack_joined}
 use Rattle.jv_interp_words.proofs.Stored.{same_length}
 use Rattle.jv_interp_words.proofs.Tops.{falls}
-use Rattle.jv_interp_held.proofs.Popped.{Popped, frame_popped, some_used}
+use Rattle.jv_interp_held.proofs.Popped.{frame_popped, some_used}
 
 -- the arguments are on top of the frame without them
 pub record OnFrame (addresses : List ℕ) (locals arguments rest : List Value) (used below : List ℕ) : Type 0 where

@@ -1,14 +1,12 @@
 -- A call in words, as far as its method: the site and the constant are there, and what linking answers is what the machine finds.
-use Rattle.std.proofs.Common.{◌≡◌, ℕ, ◌+◌, ◌-◌, ◌<◌, ◌≤◌, Bool, true, false, not, List, [], ◌∷◌, ◌++◌, Option, Some, None, Ok, Err, length, reverse, refl, sym, ap, subst, ◌∙◌, get_or, arith, slice_get, inl, inr}
-use Rattle.std.specs.Prelude.{Result, IsSome, IsTrue, is_some}
+use Rattle.std.proofs.Common.{◌≡◌, ℕ, ◌≤◌, List, Some, Ok, Err, sym, ap, subst, ◌∙◌}
+use Rattle.std.specs.Prelude.{Result, IsSome, is_some}
 use Rattle.jv_text.specs.Descriptor.{slots}
 use Rattle.jv_text.specs.Types.{method_type_of}
 use Rattle.jv_meaning_world.specs.World.{Loaded, World}
 use Rattle.jv_meaning_world.specs.Numbers.{HoldsAtNumber}
 use Rattle.jv_lookups.specs.Places.{method_at}
-use Rattle.jv_meaning_typing.specs.Uses.{Site}
 use Rattle.jv_meaning_typing.specs.LinkErrors.{error_class}
-use Rattle.jv_meaning_typing.specs.Kind.{is_static_method}
 use Rattle.jv_meaning_typing.specs.Operands.{method_operand}
 use Rattle.jv_meaning_typing.specs.MethodResolution.{MethodTarget, resolve_method}
 use Rattle.jv_meaning_typing.specs.LinkingLaws.{IsCalled, MethodIsCalled}
@@ -18,13 +16,13 @@ use Rattle.jv_link_cache.specs.declared.method_use.MethodUse.{MethodUse}
 use Rattle.jv_link_cache.specs.Bodies.{argument_words}
 use Rattle.jv_link_cache.specs.MethodUses.{IsMethodUse}
 use Rattle.jv_meaning_machine.specs.State.{Memory}
-use Rattle.jv_meaning_machine.specs.Effects.{Effect, Context, Outcome}
+use Rattle.jv_meaning_machine.specs.Effects.{Effect, Context}
 use Rattle.jv_meaning_machine.specs.Calls.{call, call_target}
 use Rattle.jv_interp_held.specs.declared.effect.Effect.TheVariants as effects
 use Rattle.jv_interp_held.specs.Executing.{Place, Did}
 use Rattle.jv_interp_held.proofs.Raised.{raised}
 use Rattle.jv_interp_members.specs.Known.{Known}
-use Rattle.jv_interp_members.specs.Resolved.{Resolves, IsTargetOf, IsResolved}
+use Rattle.jv_interp_members.specs.Resolved.{Resolves, IsResolved}
 use Rattle.jv_interp_members.specs.Calling.{Calling}
 use Rattle.jv_interp_members.proofs.Sites.{some_same, AtPlace, at_place, is_place, target_place}
 use Rattle.jv_interp_members.proofs.Widths.{few_slots}

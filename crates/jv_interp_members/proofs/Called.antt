@@ -1,5 +1,5 @@
 -- What a call does in the machine, as far as its method.
-use Rattle.std.proofs.Common.{◌≡◌, ℕ, Bool, true, false, List, ◌∷◌, ◌++◌, length, map, reverse, Some, Ok, Err, refl, sym, ap, subst, ◌∙◌}
+use Rattle.std.proofs.Common.{◌≡◌, ℕ, true, List, ◌∷◌, ◌++◌, length, map, reverse, Some, Ok, Err, ap, subst, ◌∙◌}
 use Rattle.std.specs.List.{flat_map}
 use Rattle.jv_text.specs.Descriptor.{MethodDescriptor, slots}
 use Rattle.jv_text.specs.Types.{method_type_of}
@@ -10,7 +10,7 @@ use Rattle.jv_meaning_typing.specs.Operands.{MethodReference, method_operand}
 use Rattle.jv_meaning_typing.specs.MethodResolution.{MethodTarget, resolve_method}
 use Rattle.jv_meaning_typing.specs.Environment.{current_class}
 use Rattle.jv_meaning_typing.specs.Named.{object_class_type}
-use Rattle.jv_meaning_machine.specs.Faults.{OrFault, found, tested, ◌>>=◌}
+use Rattle.jv_meaning_machine.specs.Faults.{found, tested, ◌>>=◌}
 use Rattle.jv_meaning_machine.specs.Faults.Fault.{OffsetFault, TagFault}
 use Rattle.jv_meaning_machine.specs.Values.{Value, is_reference_value, has_type}
 use Rattle.jv_meaning_machine.specs.Frames.{local_words}

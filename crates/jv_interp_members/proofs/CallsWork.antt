@@ -1,7 +1,6 @@
 -- Calls of an object's methods in words: what the machine does stands afterwards.
-use Rattle.std.proofs.Common.{◌≡◌, ℕ, suc, ◌+◌, ◌-◌, ◌<◌, ◌≤◌, Bool, true, false, not, List, [], ◌∷◌, ◌++◌, Option, Some, None, Ok, Err, length, reverse, refl, sym, ap, subst, ◌∙◌, get_or, arith, append_assoc, slice_get, inl, inr}
-use Rattle.std.specs.Prelude.{◌⊎◌, Result, IsTrue, if◌then◌else◌}
-use Rattle.std.specs.List.{flat_map}
+use Rattle.std.proofs.Common.{◌≡◌, ℕ, suc, ◌+◌, ◌-◌, ◌≤◌, Bool, true, false, List, [], ◌∷◌, ◌++◌, Option, Some, None, Ok, Err, reverse, refl, sym, ap, subst, ◌∙◌, get_or, arith, append_assoc, slice_get, inl, inr}
+use Rattle.std.specs.Prelude.{Result, IsTrue, if◌then◌else◌}
 use Rattle.std.proofs.lemmas.List.{reverse-append}
 use Rattle.jv_store.specs.Content.{words_at}
 use Rattle.jv_text.specs.Descriptor.{slots}
@@ -13,10 +12,10 @@ use Rattle.jv_meaning_world.specs.Verdicts.{is_loadable}
 use Rattle.jv_lookups.specs.Places.{method_at}
 use Rattle.jv_meaning_typing.specs.Uses.{Use as UseOfNames}
 use Rattle.jv_meaning_typing.specs.Uses.Use.{Invokevirtual, Invokespecial, Invokeinterface}
-use Rattle.jv_meaning_typing.specs.LinkErrors.{OrError, error_class, ◌>>=◌ as ◌>>==◌}
+use Rattle.jv_meaning_typing.specs.LinkErrors.{error_class, ◌>>=◌ as ◌>>==◌}
 use Rattle.jv_meaning_typing.specs.Kind.{is_static_method, has_method_kind}
 use Rattle.jv_meaning_typing.specs.MethodResolution.{MethodTarget, target}
-use Rattle.jv_meaning_typing.specs.Selection.{select, select_special, select_from, special_start}
+use Rattle.jv_meaning_typing.specs.Selection.{select, select_from, special_start}
 use Rattle.jv_meaning_typing.specs.LinkingLaws.{MethodIsCalled}
 use Rattle.jv_link.specs.declared.site.Use.{Use}
 use Rattle.jv_link.specs.declared.site.Use.TheVariants as uses
@@ -24,17 +23,15 @@ use Rattle.jv_link.specs.Seen.{seen_use}
 use Rattle.jv_link.specs.Objects.{object_class_at, IsObject}
 use Rattle.jv_link_cache.specs.declared.method_use.MethodUse.{MethodUse}
 use Rattle.jv_link_cache.specs.MethodUses.{IsMethodUse}
-use Rattle.jv_meaning_typing.specs.Named.{class_components}
-use Rattle.jv_meaning_machine.specs.Faults.{OrFault, found as found_or, tested, ◌>>=◌}
+use Rattle.jv_meaning_machine.specs.Faults.{tested, ◌>>=◌}
 use Rattle.jv_meaning_machine.specs.Faults.Fault.{ReferenceFault, ConstructionFault}
 use Rattle.jv_meaning_machine.specs.Values.{Value, is_reference_value}
 use Rattle.jv_meaning_machine.specs.Values.Value.{Int, Long, Null, Reference, Half, Unset}
 use Rattle.jv_meaning_machine.specs.Objects.{Object, Instance, is_constructed}
 use Rattle.jv_meaning_machine.specs.Objects.Object.{InstanceOf, ArrayWith}
-use Rattle.jv_meaning_machine.specs.Frames.{local_words}
 use Rattle.jv_meaning_machine.specs.State.{Memory}
 use Rattle.jv_meaning_machine.specs.Operands.{object_at}
-use Rattle.jv_meaning_machine.specs.Effects.{Effect, Context, Outcome, world_at, site_at, raises, unless_error, null_pointer}
+use Rattle.jv_meaning_machine.specs.Effects.{Effect, Context, world_at, site_at, raises, unless_error, null_pointer}
 use Rattle.jv_meaning_machine.specs.Effects.Effect.{Enters, Constructs, Raises}
 use Rattle.jv_meaning_machine.specs.Entering.{passed_values}
 use Rattle.jv_meaning_machine.specs.Fields.{instance_in}
@@ -42,16 +39,15 @@ use Rattle.jv_meaning_machine.specs.Calls.{call, call_target, call_instance, cal
 use Rattle.jv_interp_words.specs.ValuesInWords.{IsOnTop, AreOnTop}
 use Rattle.jv_interp_words.specs.FramesInWords.{in_use, methods_of}
 use Rattle.jv_interp_words.proofs.Gave.{bound_gave, found_gave, tested_gave}
-use Rattle.jv_interp_heap.specs.ObjectsInBlocks.{HasNumber, ObjectStands}
+use Rattle.jv_interp_heap.specs.ObjectsInBlocks.{HasNumber}
 use Rattle.jv_interp_held.specs.declared.effect.Effect.TheVariants as effects
 use Rattle.jv_interp_held.specs.Executing.{Place, Did}
 use Rattle.jv_interp_heap.proofs.Numbered.{system_numbers}
 use Rattle.jv_interp_held.proofs.Popped.{null_word, reference_word, not_zero}
 use Rattle.jv_interp_held.proofs.Raised.{raised}
 use Rattle.jv_interp_members.specs.Known.{Known}
-use Rattle.jv_interp_members.specs.Resolved.{Selects, IsMethodOf, IsResolved, class_number, IsRun}
+use Rattle.jv_interp_members.specs.Resolved.{Selects, IsResolved, class_number, IsRun}
 use Rattle.jv_interp_members.specs.Calling.{Calling, IsVirtual}
-use Rattle.jv_interp_members.proofs.Sites.{some_same}
 use Rattle.jv_interp_held.proofs.Entered.{done_same}
 use Rattle.jv_interp_members.proofs.Called.{unless_raised, unless_next, CalledOn, called_on}
 use Rattle.jv_interp_members.proofs.Arguments.{OnReceiver, on_receiver}

@@ -1,23 +1,22 @@
 -- A field that is used stands where the tables say: of a static field among all static ones, of another one in each object that has it.
-use Rattle.std.proofs.Common.{◌≡◌, ◌⊎◌, inl, inr, ℕ, zero, suc, ◌+◌, ◌*◌, ◌<◌, ◌≤◌, Bool, true, false, not, ◌&&◌, List, [], ◌∷◌, ◌++◌, length, map, filter, reverse, Option, Some, None, refl, sym, ap, subst, ◌∙◌, arith, if◌then◌else◌}
+use Rattle.std.proofs.Common.{◌≡◌, inl, inr, ℕ, zero, suc, ◌+◌, ◌*◌, ◌<◌, ◌≤◌, Bool, true, false, not, ◌&&◌, List, [], ◌∷◌, ◌++◌, length, map, filter, reverse, Option, Some, None, refl, sym, ap, subst, ◌∙◌, arith, if◌then◌else◌}
 use Rattle.std.specs.Prelude.{⊤, IsSome, IsTrue, IsFalse, sum_by}
 use Rattle.std.specs.List.{Contains, flat_map, AllByRecursion}
 use Rattle.std.specs.Option.{option_map}
 use Rattle.std.specs.Str.{bytes_eq}
 use Rattle.std.proofs.lemmas.Grind.{flat_map-append}
 use Rattle.std.proofs.lemmas.List.{reverse-append, length-map, length-reverse}
-use Rattle.std.proofs.lemmas.List.Sums.{sum_by-cons, sum_by-append}
+use Rattle.std.proofs.lemmas.List.Sums.{sum_by-cons}
 use Rattle.std.proofs.lemmas.List.Concat.{flat_map-cons}
-use Rattle.std.proofs.lemmas.List.Elements.{Contains-append_cases, Contains-append_left, Contains-append_right}
+use Rattle.std.proofs.lemmas.List.Elements.{Contains-append_cases}
 use Rattle.std.proofs.lemmas.Slice.Eq.{bytes_eq-Decides}
 use Rattle.jv_text.specs.Types.{field_type_of}
-use Rattle.jv_class.specs.Class.{Class, Field}
-use Rattle.jv_meaning_world.specs.System.Classes.{system_classes}
-use Rattle.jv_meaning_world.specs.World.{Loaded, World, class_named, world_of}
+use Rattle.jv_class.specs.Class.{Field}
+use Rattle.jv_meaning_world.specs.World.{Loaded, World}
 use Rattle.jv_meaning_world.specs.Above.{above, is_circular, superclass_in, chain_within, superclasses}
 use Rattle.jv_meaning_world.specs.LookUps.{DeclaredField, field_by}
 use Rattle.jv_meaning_world.specs.Verdicts.{is_loadable}
-use Rattle.jv_meaning_world.proofs.Up.{none, single, first, later, has_name, named_stands, above_by_ways, above_is_transitive}
+use Rattle.jv_meaning_world.proofs.Up.{none, single, first, later, named_stands, above_by_ways, above_is_transitive}
 use Rattle.jv_meaning_world.proofs.Standing.{loadable_by_all}
 use Rattle.jv_meaning_typing.specs.Kind.{is_static_field}
 use Rattle.jv_meaning_typing.specs.Selection.{upward}
@@ -31,7 +30,7 @@ use Rattle.jv_loader.specs.Straight.{IsStraight}
 use Rattle.jv_loader.proofs.Straightness.{are_straight}
 use Rattle.jv_meaning_machine.specs.Objects.{FieldKey, key_of, same_key}
 use Rattle.jv_interp_heap.specs.ObjectsInBlocks.{BeginsAt, place_among}
-use Rattle.jv_interp_held.specs.HeldInWords.{own_static_fields, static_fields}
+use Rattle.jv_interp_held.specs.HeldInWords.{static_fields}
 use Rattle.jv_interp_heap.specs.SystemNumbers.{IsGuestsWorld}
 use Rattle.jv_interp_members.proofs.WorldNames.{HaveOwnNames, names_differ}
 use Rattle.jv_interp_members.proofs.FieldsOfFiles.{AreUnlike, FieldsKeepRules, fields_keep_rules}

@@ -1,13 +1,13 @@
 -- What a class keeps of its file's rules on fields (JVMS 4.1, 4.3.2, 4.5).
 use Rattle.std.proofs.Common.{◌≡◌, ◌⊎◌, inl, inr, ℕ, suc, ◌<◌, Bool, true, false, not, ◌&&◌, List, [], ◌∷◌, ◌++◌, length, map, Option, Some, None, refl, sym, ap, subst, ◌∙◌, arith}
-use Rattle.std.specs.Prelude.{⊤, IsSome, IsTrue, is_some, nat_lt}
-use Rattle.std.specs.List.{All, Contains, AllByRecursion, list_all, list_any}
+use Rattle.std.specs.Prelude.{⊤, IsSome, is_some, nat_lt}
+use Rattle.std.specs.List.{Contains, AllByRecursion, list_all}
 use Rattle.std.specs.Option.{IsSomeAnd, option_map}
 use Rattle.std.specs.Str.{bytes_eq}
 use Rattle.std.proofs.lemmas.Bool.{ltb-true}
 use Rattle.std.proofs.lemmas.List.Elements.{Contains-append_cases, All-contains}
 use Rattle.std.proofs.lemmas.Slice.Eq.{bytes_eq-Decides}
-use Rattle.jv_format.specs.Format.{◌>>=◌, half}
+use Rattle.jv_format.specs.Format.{◌>>=◌}
 use Rattle.jv_text.specs.Types.{field_type_of}
 use Rattle.jv_text.proofs.TypesOf.{agree}
 use Rattle.jv_pool.specs.Constants.{Entry, NameAndDescriptor, named_at, class_name_at}
@@ -20,7 +20,7 @@ use Rattle.jv_meaning_world.specs.FileContent.{FileContent, IsProfileClass, IsCo
 use Rattle.jv_meaning_world.specs.declared.content.Content.TheVariants.{OtherVersion, NoClassFile, MoreThanProfile, Holds}
 use Rattle.jv_meaning_world.specs.Library.{system_with, with_library}
 use Rattle.jv_meaning_world.proofs.OrderWorlds.{in_library, to_held}
-use Rattle.jv_meaning_world.specs.World.{HostClasses, Loaded, World, loaded, is_reserved, has_class, with_class_of, joined_all, classes_in, world_of}
+use Rattle.jv_meaning_world.specs.World.{HostClasses, Loaded, World, loaded, is_reserved, has_class, with_class_of, joined_all, classes_in}
 use Rattle.jv_meaning_world.proofs.Up.{none, single, first, later}
 use Rattle.jv_meaning_typing.proofs.Found.{split}
 use Rattle.jv_interp_heap.specs.SystemNumbers.{IsGuestsWorld}

@@ -1,12 +1,11 @@
 -- What linking answers for a call, from what the classes' linking is known to answer.
-use Rattle.std.proofs.Common.{◌≡◌, ℕ, Option, Some, None, Ok, Err, refl, sym, ap, subst, ◌∙◌, slice_get}
+use Rattle.std.proofs.Common.{◌≡◌, ℕ, Option, Some, None, Err, refl, sym, subst, slice_get}
 use Rattle.std.specs.Option.{option_map}
-use Rattle.jv_meaning_world.specs.World.{World, world_of}
-use Rattle.jv_meaning_world.specs.System.Classes.{system_classes}
+use Rattle.jv_meaning_world.specs.World.{World}
 use Rattle.jv_meaning_world.specs.Overriding.{Declared}
 use Rattle.jv_meaning_world.specs.LookUps.{DeclaredField}
 use Rattle.jv_lookups.specs.Places.{field_at, method_at}
-use Rattle.jv_meaning_typing.specs.LinkErrors.{LinkError as ErrorOfNames, OrError, error_class}
+use Rattle.jv_meaning_typing.specs.LinkErrors.{OrError, error_class}
 use Rattle.jv_meaning_typing.specs.MethodResolution.{MethodTarget}
 use Rattle.jv_link.specs.declared.error.LinkError.{LinkError}
 use Rattle.jv_link.specs.declared.target.MethodTarget.{MethodTarget as TargetByNumber}

@@ -1,5 +1,5 @@
 -- Methods that get numbers one behind the other.
-use Rattle.std.proofs.Common.{◌≡◌, ℕ, zero, suc, ◌+◌, ◌<◌, ◌≤◌, List, [], ◌∷◌, ◌++◌, length, map, get_or, Option, Some, None, refl, sym, ap, ◌∙◌, subst, arith, take, drop, slice_get, length-append, append_assoc}
+use Rattle.std.proofs.Common.{◌≡◌, ℕ, zero, suc, ◌+◌, ◌<◌, ◌≤◌, List, [], ◌∷◌, ◌++◌, length, map, Option, Some, None, refl, sym, ap, ◌∙◌, subst, arith, take, slice_get, length-append, append_assoc}
 use Rattle.std.specs.Prelude.{All}
 use Rattle.std.specs.Option.{option_map}
 use Rattle.std.proofs.Math.Seq.{take-suc}
@@ -18,7 +18,7 @@ use Rattle.jv_interp_words.specs.FramesInWords.{methods_of}
 use Rattle.jv_interp_members.specs.declared.methods.MethodRow.{MethodRow}
 use Rattle.jv_interp_members.specs.declared.methods.Methods.{Methods}
 use Rattle.jv_interp_members.specs.Inside.Counted.{own_methods, firsts_from}
-use Rattle.jv_interp_members.specs.Methods.{method_in, HasBody, HasItsCode, IsRowOf, known, AreRows, AreFirsts, AreMethods}
+use Rattle.jv_interp_members.specs.Methods.{method_in, HasBody, HasItsCode, IsRowOf, known, AreRows, AreMethods}
 
 some_same : {A : Type 0} → {x y : A} → Some x ≡ Some y → x ≡ y
 some_same e = cc

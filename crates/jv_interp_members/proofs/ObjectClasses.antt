@@ -1,10 +1,10 @@
 -- The class of an object, by the first word of its block.
-use Rattle.std.proofs.Common.{◌≡◌, ℕ, ◌+◌, ◌*◌, ◌<◌, ◌≤◌, Bool, true, false, List, ◌∷◌, Option, Some, None, Ok, length, refl, sym, ap, subst, ◌∙◌, get_or, arith, slice_get}
-use Rattle.std.specs.Prelude.{IsTrue, nat_lt, if◌then◌else◌}
+use Rattle.std.proofs.Common.{◌≡◌, ℕ, ◌<◌, ◌≤◌, List, ◌∷◌, Option, Some, None, Ok, length, refl, sym, ap, subst, ◌∙◌, get_or, arith, slice_get}
+use Rattle.std.specs.Prelude.{IsTrue}
 use Rattle.std.proofs.lemmas.Grind.{common_steps}
 use Rattle.jv_meaning_world.specs.World.{Loaded, World, class_named}
 use Rattle.jv_meaning_world.specs.Verdicts.{is_loadable}
-use Rattle.jv_meaning_machine.specs.Faults.{OrFault, found, ◌>>=◌}
+use Rattle.jv_meaning_machine.specs.Faults.{OrFault, found}
 use Rattle.jv_meaning_machine.specs.Faults.Fault.{ReferenceFault}
 use Rattle.jv_meaning_machine.specs.Objects.{Object, Instance}
 use Rattle.jv_meaning_machine.specs.Objects.Object.{InstanceOf, ArrayWith}

@@ -1,6 +1,5 @@
 -- Methods and first numbers, class by class.
-use Rattle.std.proofs.Common.{◌≡◌, ℕ, zero, suc, ◌+◌, ◌<◌, ◌≤◌, List, [], ◌∷◌, ◌++◌, length, map, get_or, Some, refl, sym, ap, ◌∙◌, subst, arith, take, drop, slice_get, append_assoc, append-nil}
-use Rattle.std.specs.List.{flat_map}
+use Rattle.std.proofs.Common.{◌≡◌, ℕ, zero, suc, ◌+◌, ◌<◌, ◌≤◌, List, [], ◌∷◌, ◌++◌, length, Some, refl, sym, ap, ◌∙◌, subst, arith, take, drop, slice_get, append_assoc, append-nil}
 use Rattle.jv_meaning_world.specs.World.{Loaded, World}
 use Rattle.jv_meaning_world.specs.Overriding.{Declared}
 use Rattle.jv_meaning_world.proofs.Lists.{drop_there}
@@ -8,7 +7,7 @@ use Rattle.jv_interp_words.specs.FramesInWords.{methods_of}
 use Rattle.jv_interp_members.specs.declared.methods.MethodRow.{MethodRow}
 use Rattle.jv_interp_members.specs.declared.methods.Methods.{Methods}
 use Rattle.jv_interp_members.specs.Inside.Counted.{own_methods, firsts_from}
-use Rattle.jv_interp_members.specs.Methods.{AreRows, AreFirsts, AreMethods}
+use Rattle.jv_interp_members.specs.Methods.{AreRows, AreMethods}
 use Rattle.jv_interp_members.proofs.Numbered.{first_at}
 
 pub all_taken : {A : Type 0} (xs : List A) (n : ℕ) → length xs ≤ n → take n xs ≡ xs

@@ -11,7 +11,7 @@ use Rattle.jv_meaning_machine.specs.Faults.{OrFault, tested, ◌>>=◌}
 use Rattle.jv_meaning_machine.specs.Faults.Fault.{OffsetFault, ReferenceFault, ConstructionFault, TagFault}
 use Rattle.jv_meaning_machine.specs.Values.{Value, has_type, narrowed}
 use Rattle.jv_meaning_machine.specs.Values.Value.{Int, Long, Null, Reference, Half, Unset}
-use Rattle.jv_meaning_machine.specs.Objects.{key_of, value_at, with_value, Instance, Object}
+use Rattle.jv_meaning_machine.specs.Objects.{key_of, value_at, Instance, Object}
 use Rattle.jv_meaning_machine.specs.Objects.Object.{InstanceOf}
 use Rattle.jv_meaning_machine.specs.State.{Memory}
 use Rattle.jv_meaning_machine.specs.Operands.{object_at, popped_reference, popped_as, taken_as, usable_value}

@@ -1,16 +1,15 @@
 -- Calls of a class's methods in words: what the machine does stands afterwards.
-use Rattle.std.proofs.Common.{◌≡◌, ℕ, suc, ◌+◌, ◌-◌, ◌<◌, ◌≤◌, ℤ, Bool, true, false, ◌&&◌, List, [], ◌∷◌, ◌++◌, Option, Some, None, Ok, Err, length, map, reverse, refl, sym, ap, subst, ◌∙◌, arith, slice_get}
-use Rattle.std.specs.Prelude.{IsTrue, if◌then◌else◌}
+use Rattle.std.proofs.Common.{◌≡◌, ℕ, ◌+◌, ◌<◌, ◌≤◌, ℤ, Bool, true, false, ◌&&◌, List, ◌∷◌, ◌++◌, Some, None, Ok, length, map, reverse, sym, ap, subst, ◌∙◌, arith, slice_get}
+use Rattle.std.specs.Prelude.{if◌then◌else◌}
 use Rattle.std.specs.List.{flat_map}
 use Rattle.jv_text.specs.Descriptor.{MethodDescriptor, slots}
 use Rattle.jv_stackmap.specs.Types.{value_type}
-use Rattle.jv_meaning_world.specs.World.{Loaded, World, loaded, world_of}
-use Rattle.jv_meaning_world.specs.System.Classes.{system_classes}
+use Rattle.jv_meaning_world.specs.World.{Loaded, World, loaded}
 use Rattle.jv_meaning_world.specs.System.Io.{io}
 use Rattle.jv_meaning_world.specs.Overriding.{Declared}
 use Rattle.jv_lookups.specs.Places.{method_at}
 use Rattle.jv_meaning_typing.specs.Uses.Use.{Invokestatic}
-use Rattle.jv_meaning_typing.specs.MethodResolution.{MethodTarget, target}
+use Rattle.jv_meaning_typing.specs.MethodResolution.{target}
 use Rattle.jv_meaning_typing.specs.Selection.{select}
 use Rattle.jv_meaning_typing.specs.LinkingLaws.{MethodIsCalled}
 use Rattle.jv_link.specs.declared.site.Use.TheVariants as uses
@@ -19,7 +18,6 @@ use Rattle.jv_link_cache.specs.MethodUses.{IsMethodUse}
 use Rattle.jv_link_cache.proofs.Eachwise.{within_list}
 use Rattle.jv_meaning_machine.specs.Faults.{◌>>=◌}
 use Rattle.jv_meaning_machine.specs.Values.{Value}
-use Rattle.jv_meaning_machine.specs.Values.Value.{Int}
 use Rattle.jv_meaning_machine.specs.Frames.{local_words}
 use Rattle.jv_meaning_machine.specs.State.{Memory, class_state, is_ready}
 use Rattle.jv_meaning_machine.specs.Operands.{taken}
@@ -41,7 +39,7 @@ use Rattle.jv_interp_members.proofs.Sites.{some_same, AtPlace, at_place}
 use Rattle.jv_interp_held.proofs.Entered.{done_same}
 use Rattle.jv_interp_members.proofs.Called.{Passed, passed}
 use Rattle.jv_interp_members.proofs.Arguments.{OnFrame, on_frame}
-use Rattle.jv_interp_held.proofs.Entered.{left_within, Enterable, entered, begun}
+use Rattle.jv_interp_held.proofs.Entered.{left_within, entered, begun}
 use Rattle.jv_interp_members.proofs.HostMethods.{io_at, other_class, method_there, there_is, else_read}
 use Rattle.jv_interp_members.proofs.AtSite.{it, Found, found, few_words}
 

@@ -1,5 +1,5 @@
 -- A use of a field in words, as far as the field: what linking answers is what the machine finds, and where its values stand.
-use Rattle.std.proofs.Common.{◌≡◌, ℕ, zero, suc, ◌<◌, Bool, true, false, not, List, Option, Some, None, Ok, Err, length, refl, sym, ap, subst, ◌∙◌, arith, slice_get}
+use Rattle.std.proofs.Common.{◌≡◌, ℕ, zero, suc, ◌<◌, Bool, true, false, not, List, Option, Some, None, Ok, Err, refl, sym, ap, subst, ◌∙◌, arith, slice_get}
 use Rattle.std.specs.Prelude.{Result, IsSome, IsTrue, IsFalse, is_some, if◌then◌else◌}
 use Rattle.jv_text.specs.declared.descriptor.Base.TheVariants as bases
 use Rattle.jv_text.specs.declared.descriptor.Element.{Element}
@@ -23,13 +23,10 @@ use Rattle.jv_meaning_typing.specs.LinkingLaws.{FieldIsUsed}
 use Rattle.jv_link.specs.declared.site.Use.{Use}
 use Rattle.jv_link.specs.declared.site.Use.TheVariants as uses
 use Rattle.jv_link.specs.Seen.{place_of, seen_use, IsSite}
-use Rattle.jv_link_cache.specs.declared.field_use.FieldKind.{FieldKind}
 use Rattle.jv_link_cache.specs.declared.field_use.FieldUse.{FieldUse}
 use Rattle.jv_link_cache.specs.FieldUses.{kind_of, IsFieldUse}
-use Rattle.jv_link_cache.specs.Places.{IsWordOf}
-use Rattle.jv_link_cache.proofs.Eachwise.{within_list}
 use Rattle.jv_meaning_typing.specs.Environment.{current_class}
-use Rattle.jv_meaning_machine.specs.Faults.{OrFault, found, ◌>>=◌}
+use Rattle.jv_meaning_machine.specs.Faults.{OrFault, found}
 use Rattle.jv_meaning_machine.specs.Faults.Fault.{OffsetFault}
 use Rattle.jv_meaning_machine.specs.State.{Memory, class_state, is_ready}
 use Rattle.jv_meaning_machine.specs.Effects.{Effect, Context, Outcome, world_at, method_at, site_at, unless_error, once_initialized}

@@ -25,7 +25,7 @@ use Rattle.jv_meaning_machine.specs.Objects.{Object}
 use Rattle.jv_meaning_machine.specs.Frames.{local_words}
 use Rattle.jv_meaning_machine.specs.Operands.{usable_value, popped, popped_as, taken_as, taken_before, taken}
 use Rattle.jv_interp_words.proofs.Gave.{bound_gave, tested_gave}
-use Rattle.jv_interp_words.proofs.Taken.{popped_gave, popped_as_gave, taken_gave}
+use Rattle.jv_interp_words.proofs.Taken.{popped_gave, taken_gave}
 
 -- ---- values by their types
 

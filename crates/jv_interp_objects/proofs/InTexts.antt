@@ -7,7 +7,7 @@ use Rattle.std.proofs.lemmas.List.Quantifiers.{position-Some}
 use Rattle.std.proofs.lemmas.Option.{slice_get-get_or, slice_get_within, get_or_from_slice_get}
 use Rattle.std.proofs.lemmas.Slice.Eq.{bytes_eq-Decides}
 use Rattle.std.proofs.Math.Nat.{eq-or-lt_of_le}
-use Rattle.jv_pool.specs.Constants.{Entry, pool_count, at_index, class_name_at, utf8_at, string_in, string_at}
+use Rattle.jv_pool.specs.Constants.{Entry, pool_count, at_index, class_name_at, string_in, string_at}
 use Rattle.jv_pool.proofs.Kept.{past_table}
 use Rattle.jv_class_structure.specs.Structure.{ClassStructure}
 use Rattle.jv_class.specs.Class.{Class, all_found, field_of, method_of, super_of, class_of}

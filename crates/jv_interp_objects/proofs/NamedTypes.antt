@@ -20,7 +20,6 @@ use Rattle.jv_meaning_machine.specs.Effects.{resolved_type}
 use Rattle.jv_link.specs.declared.target.ClassRef.{ClassRef}
 use Rattle.jv_link.specs.declared.target.ClassRef.TheVariants as refs
 use Rattle.jv_link.specs.Seen.{answer, class_ref_at}
-use Rattle.std.proofs.lemmas.Option.{slice_get_within}
 use Rattle.jv_classes.proofs.Numbers.{number_at, numbered, position_within}
 use Rattle.jv_link_cache.specs.ClassUses.{class_of_element}
 use Rattle.jv_interp_heap.specs.ObjectsInBlocks.{HasNumber, IsElement}

@@ -6,9 +6,9 @@ use Rattle.jv_store.specs.Content.{words_at, greatest, written}
 use Rattle.jv_store.proofs.LookUps.{greatest-append_above}
 use Rattle.jv_interp_heap.specs.ObjectsInBlocks.{Blocks}
 use Rattle.jv_interp_heap.specs.NewBlocks.{Joins}
-use Rattle.jv_interp_objects.specs.NestedBlocks.{outer_slots, inner_size, Follow, AreNested, EachAbove, NestedJoin, HasInner, CanTakeInner, TakesInner}
+use Rattle.jv_interp_objects.specs.NestedBlocks.{outer_slots, Follow, AreNested, EachAbove, NestedJoin, HasInner, CanTakeInner, TakesInner}
 use Rattle.jv_interp_objects.proofs.Behind.{above_both, own_words, own_written}
-use Rattle.jv_interp_objects.proofs.Following.{first_of, above_as, follow_last, closed}
+use Rattle.jv_interp_objects.proofs.Following.{first_of, above_as, follow_last}
 
 -- so many are made, in an outer one at an address
 pub record Nesting (slots : ℕ) (counts : List ℕ) (word outer made : ℕ) (before now : Blocks) : Type 0 where

@@ -1,10 +1,9 @@
 -- Units and the bytes that spell them.
-use Rattle.std.proofs.Common.{◌≡◌, ℕ, ◌+◌, ◌-◌, ◌*◌, ◌/◌, ◌%◌, ◌<◌, ◌≤◌, ◌^◌, Bool, true, false, cond, ◌&&◌, nat_lt, IsTrue, List, [], ◌∷◌, ◌++◌, length, sum_by, count_by, get_or, refl, ap, ◌∙◌, if◌then◌else◌, arith}
-use Rattle.std.specs.List.{list_all}
+use Rattle.std.proofs.Common.{◌≡◌, ℕ, ◌+◌, ◌-◌, ◌/◌, ◌%◌, ◌<◌, ◌≤◌, ◌^◌, Bool, true, false, cond, ◌&&◌, nat_lt, IsTrue, List, [], ◌∷◌, ◌++◌, length, sum_by, count_by, get_or, refl, ap, ◌∙◌, if◌then◌else◌, arith}
 use Rattle.std.proofs.lemmas.Bool.{and_parts, ltb-true}
 use Rattle.std.proofs.lemmas.List.Sums.{sum_by-cons}
 use Rattle.jv_text.specs.Text.{unit_bytes, text_bytes, is_unit}
-use Rattle.jv_interp_objects.specs.Units.{begins_unit, HasUnits, IsSomeText}
+use Rattle.jv_interp_objects.specs.Units.{begins_unit, HasUnits}
 
 pub unit_fits : (unit : ℕ) → IsTrue (is_unit unit) → unit < 2 ^ 16
 unit_fits unit h = grind arith

@@ -1,5 +1,5 @@
 -- An effect that leaves memory, words and registers as they were: it stands, and no block is written.
-use Rattle.std.proofs.Common.{◌≡◌, ℕ, List, [], Ok, refl, sym, subst, append-nil}
+use Rattle.std.proofs.Common.{◌≡◌, ℕ, List, [], Ok, sym, subst, append-nil}
 use Rattle.jv_meaning_machine.specs.State.{Memory}
 use Rattle.jv_meaning_machine.specs.Effects.{Effect, Context, Outcome}
 use Rattle.jv_interp_words.specs.FramesInWords.{in_use}

@@ -1,6 +1,6 @@
 -- The blocks of a String and of its chars, which join the others, and what is taken back.
 use Rattle.std.proofs.Common.{◌≡◌, ℕ, ◌*◌, ◌≤◌, List, [], ◌∷◌, length, replicate, ap, subst, ◌∙◌, arith}
-use Rattle.jv_store.specs.Content.{words_at, greatest, written, without}
+use Rattle.jv_store.specs.Content.{words_at, greatest, without}
 use Rattle.jv_store.proofs.LookUps.{greatest-append_above}
 use Rattle.jv_store.proofs.Contents.{without-append}
 use Rattle.jv_text.specs.Text.{Spells, IsText}
@@ -9,7 +9,7 @@ use Rattle.jv_interp_heap.specs.NewBlocks.{Joins}
 use Rattle.jv_interp_heap.proofs.Joined.{others_stay}
 use Rattle.jv_interp_heap.proofs.NewWords.{joined_words}
 use Rattle.jv_interp_objects.specs.Units.{HasUnits}
-use Rattle.jv_interp_objects.specs.TextBlocks.{CanFill, Fills, JoinsText}
+use Rattle.jv_interp_objects.specs.TextBlocks.{CanFill, Fills}
 
 -- ---- a block that is taken back
 

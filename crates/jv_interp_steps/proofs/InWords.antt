@@ -1,5 +1,5 @@
 -- Steps that work on the words of their frame alone, among a method's steps (JVMS 2.11).
-use Rattle.std.proofs.Common.{◌≡◌, ℕ, zero, suc, ◌+◌, ◌<◌, Bool, List, [], ◌++◌, Ok, IsOk, refl, sym, ap, subst, ◌∙◌, arith, append-nil}
+use Rattle.std.proofs.Common.{◌≡◌, ℕ, zero, suc, ◌+◌, Bool, List, [], ◌++◌, Ok, IsOk, refl, sym, ap, subst, ◌∙◌, arith, append-nil}
 use Rattle.jv_meaning_world.specs.World.{World}
 use Rattle.jv_meaning_machine.specs.Faults.{OrFault}
 use Rattle.jv_meaning_machine.specs.Frames.{Frame}

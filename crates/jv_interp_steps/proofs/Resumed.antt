@@ -1,5 +1,5 @@
 -- Another method goes on in the registers behind steps of one that ran in them (JVMS 2.6, 2.11).
-use Rattle.std.proofs.Common.{◌≡◌, ℕ, ◌++◌, Bool, List, refl}
+use Rattle.std.proofs.Common.{ℕ, ◌++◌, Bool, List, refl}
 use Rattle.jv_meaning_world.specs.World.{World}
 use Rattle.jv_meaning_machine.specs.State.{Program, State}
 use Rattle.jv_interp_words.specs.declared.registers.Registers.{Registers}

@@ -1,5 +1,5 @@
 -- Why there is no report on folders.
-use Rattle.std.proofs.Common.{◌≡◌, ◌≢◌, ℕ, List, Option, None, inl, inr, refl, sym, subst, map}
+use Rattle.std.proofs.Common.{◌≢◌, ℕ, List, Option, None, inl, inr, refl, sym, subst, map}
 use Rattle.jv_program_base.specs.declared.failure.Failure.{Failure}
 use Rattle.jv_program_base.specs.declared.failure.Failure.TheVariants.{Unreadable, StandardInput, LibraryRefused, Refused, FeedTooLong, TooManyFolders, NoGuest, HostMemory, OutOfMemory}
 use Rattle.jv_program_base.specs.declared.folder.Folder.{Folder}

@@ -7,7 +7,7 @@ use Rattle.jv_program_base.specs.declared.outcome.Outcome.{Outcome}
 use Rattle.jv_program_run.specs.declared.settings.RunSettings.{RunSettings}
 use Rattle.jv_program_base.specs.Disk.{Disk}
 use Rattle.jv_program_base.specs.Library.{AreLibraryFiles}
-use Rattle.jv_program_run.specs.Guests.{NamedGuest, named_guest}
+use Rattle.jv_program_run.specs.Guests.{named_guest}
 use Rattle.jv_program_run.specs.Named.{AreFoldersOf, AreReady, AreTaken, IsRunAs, IsRunFailure, reads_all}
 use Rattle.jv_program_run.specs.Outcome.{IsGuestsFailure, IsRunOutcome}
 use Rattle.jv_program_run.proofs.NotRun.{not_run}

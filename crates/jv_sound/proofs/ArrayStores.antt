@@ -20,7 +20,7 @@ use Rattle.jv_meaning_machine.specs.Objects.Object.{ArrayWith}
 use Rattle.jv_meaning_machine.specs.Arrays.{Components, at_place, place_for, holds_numbers, holds_references, with_component_stored, store_at, store_number, can_stand, store_reference_if, store_reference_at, store_reference}
 use Rattle.jv_meaning_machine.specs.Effects.{null_pointer, array_index, array_store, goes_on_with}
 use Rattle.jv_meaning_machine.specs.Instructions.{store_in_array}
-use Rattle.jv_sound.specs.Values.{Fits, Heap, IsObject, IsReferenceTo, HasStack, object_type}
+use Rattle.jv_sound.specs.Values.{Fits, Heap, IsReferenceTo, HasStack}
 use Rattle.jv_sound.specs.Memory.{IsTypedObject}
 use Rattle.jv_sound.specs.Later.{IsLater}
 use Rattle.jv_sound.specs.Frames.{Holds}

@@ -38,7 +38,7 @@ use Rattle.jv_sound.proofs.Taking.{and_parts}
 use Rattle.jv_sound.proofs.Subtypes.{above_is_named}
 use Rattle.jv_sound.proofs.Words.{plain_sorts}
 use Rattle.jv_meaning_machine.specs.Calls.{is_built_in}
-use Rattle.jv_sound.proofs.Formed.{field_test, method_test, code_test, constant_test, needs_code, value_is, initial_fits, plain_type, plain_method_type, init_test, clinit_test, is_void, HasText, IsInitialText, IsFormed, IsCoded, or_gives}
+use Rattle.jv_sound.proofs.Formed.{needs_code, value_is, initial_fits, plain_type, plain_method_type, init_test, clinit_test, is_void, IsInitialText, IsFormed, IsCoded, or_gives}
 
 -- all classes of the world
 pub record AreFormed (program : Program) : Type 0 where

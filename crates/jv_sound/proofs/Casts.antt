@@ -20,7 +20,7 @@ use Rattle.jv_meaning_machine.specs.Values.{Value}
 use Rattle.jv_meaning_machine.specs.Values.Value.{Null, Reference}
 use Rattle.jv_meaning_machine.specs.Objects.{Object, is_instance_of}
 use Rattle.jv_meaning_machine.specs.Instructions.{when_tested, cast_if, check_cast_of, answered, instance_of_value}
-use Rattle.jv_meaning_machine.specs.Effects.{Outcome, unless_error, class_cast, class_constant, resolved_type}
+use Rattle.jv_meaning_machine.specs.Effects.{Outcome, unless_error, class_cast, resolved_type}
 use Rattle.jv_meaning_machine.proofs.TakenItems.{taken_gave}
 use Rattle.jv_sound.specs.Values.{Fits, IsObject, IsReferenceTo, HasStack, object_type}
 use Rattle.jv_sound.proofs.Logic.{then2, then2_known, then_holds, found_holds, handed_on}

@@ -20,7 +20,7 @@ use Rattle.jv_sound.specs.Values.{IsObject, Heap, Place, IsFresh, IsThis, FitsIn
 use Rattle.jv_sound.specs.Later.{IsLater}
 use Rattle.jv_sound.specs.Effects.{after}
 use Rattle.jv_sound.proofs.Logic.{clash}
-use Rattle.jv_sound.proofs.Heaps.{with_set, set_later, get_set_same, get_set_other, upd_same, upd_other, in_later, object_later}
+use Rattle.jv_sound.proofs.Heaps.{with_set, set_later, get_set_other, upd_other, in_later}
 
 -- not the object with this number
 abbrev Apart : Place → ℕ → FrameType → Type 0

@@ -35,7 +35,7 @@ use Rattle.jv_meaning_typing.specs.Access.{same_class}
 use Rattle.jv_meaning_world.specs.Laws.Order.{IsBelow}
 use Rattle.jv_meaning_typing.specs.Environment.{current_class, instruction_at}
 use Rattle.jv_meaning_typing.specs.FrameChanges.{taken}
-use Rattle.jv_meaning_typing.specs.MemberRules.{class_of_new, is_that_name, constructs_new, constructs_this, constructed_type, constructed, construct_top, flag_behind, invoke_init, invoke_special, method_guard, goes_with_version}
+use Rattle.jv_meaning_typing.specs.MemberRules.{class_of_new, is_that_name, constructs_new, constructs_this, constructed, construct_top, invoke_init, invoke_special, method_guard, goes_with_version}
 use Rattle.jv_meaning_typing.specs.MemberRules as rules
 use Rattle.jv_meaning_typing.specs.Named.{MethodUse, method_use, method_named_by, can_be_of, class_type, current_type, when}
 use Rattle.jv_meaning_typing.specs.Rule.{constructed_object}

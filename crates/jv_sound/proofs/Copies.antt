@@ -7,7 +7,6 @@ use Rattle.jv_stackmap.specs.declared.width.Width.TheVariants.{One}
 use Rattle.jv_stackmap.specs.Types.{FrameType}
 use Rattle.jv_meaning_typing.specs.FrameChanges.{is_same_object, replaced}
 use Rattle.jv_meaning_machine.specs.Values.{Value}
-use Rattle.jv_meaning_machine.specs.Values.Value.{Reference}
 use Rattle.jv_sound.specs.Values.{Place, FitsIn, HasStack, IsPaired, HasLocals, type_width}
 use Rattle.jv_sound.proofs.Logic.{clash}
 

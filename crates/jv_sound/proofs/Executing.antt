@@ -1,6 +1,6 @@
 -- Each instruction at a frame of its types does what such a frame goes on with: the lemmas of all instructions, side by side.
 use Rattle.std.proofs.Common.{◌≡◌, ℕ, Bool, true, false, not, List, [], ◌∷◌, length, Option, Some, None, refl, sym, ap, subst, ◌∙◌}
-use Rattle.std.specs.Prelude.{⊤, IsTrue, IsSome, is_some, codes, nat_lt, slice_get}
+use Rattle.std.specs.Prelude.{IsTrue, IsSome, is_some, nat_lt}
 use Rattle.std.specs.List.{Contains, list_all, list_any}
 use Rattle.std.specs.Str.{bytes_eq}
 use Rattle.jv_text.specs.Name.{is_array_name, is_init}
@@ -29,7 +29,7 @@ use Rattle.jv_meaning_machine.specs.Frames.{MethodFrame, Frame}
 use Rattle.jv_meaning_machine.specs.Objects.{Object}
 use Rattle.jv_meaning_machine.specs.State.{Program, Memory, Control, is_class_accepted}
 use Rattle.jv_meaning_machine.specs.Alone.{AreUnits}
-use Rattle.jv_meaning_machine.specs.Effects.{Effect, Context}
+use Rattle.jv_meaning_machine.specs.Effects.{Context}
 use Rattle.jv_meaning_machine.specs.Initialization.{is_verified}
 use Rattle.jv_meaning_machine.specs.Instructions.{execute}
 use Rattle.jv_meaning_machine.specs.Step.{context}
@@ -71,7 +71,7 @@ use Rattle.jv_sound.proofs.InstanceCalls.{IsRoot}
 use Rattle.jv_sound.proofs.VirtualCalls.{invoke_virtual_ok, invoke_interface_ok}
 use Rattle.jv_sound.proofs.ConstructorCalls.{invoke_special_ok}
 use Rattle.jv_sound.proofs.NewObjects.{new_ok}
-use Rattle.jv_sound.proofs.Ways.{Setting, IsSet, world_of, program_of, memory_of, context_of, here, By, Sound}
+use Rattle.jv_sound.proofs.Ways.{Setting, IsSet, world_of, program_of, memory_of, here, Sound}
 use Rattle.jv_sound.proofs.Ways as ways
 use Rattle.jv_sound.proofs.Memories.{loadable_of}
 use Rattle.jv_sound.proofs.Stepping.{rule_ok}

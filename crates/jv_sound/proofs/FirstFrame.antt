@@ -8,10 +8,9 @@ use Rattle.jv_text.specs.Descriptor.{MethodDescriptor, slots}
 use Rattle.jv_text.specs.Name.{is_init}
 use Rattle.jv_text.specs.Types.{method_type_of}
 use Rattle.jv_stackmap.specs.declared.verification.VerificationTypeOf.TheVariants as types
-use Rattle.jv_stackmap.specs.Types.{FrameType, value_type, words}
+use Rattle.jv_stackmap.specs.Types.{value_type, words}
 use Rattle.jv_stackmap.specs.Initial.{initial_entries}
 use Rattle.jv_code.specs.Insns.{Instruction}
-use Rattle.jv_code.specs.Places.{IsCode}
 use Rattle.jv_meaning_world.specs.World.{World}
 use Rattle.jv_meaning_world.specs.Overriding.{Declared}
 use Rattle.jv_meaning_typing.specs.Kind.{is_static_method}

@@ -26,7 +26,7 @@ use Rattle.jv_pool.specs.declared.constant.Constant.TheVariants.{Utf8, Integer, 
 use Rattle.jv_pool.specs.declared.facts.ConstantValueKind.{ConstantValueKind}
 use Rattle.jv_pool.specs.declared.facts.ConstantValueKind.TheVariants as values
 use Rattle.jv_pool.specs.Facts.{value_of_element, value_of_type}
-use Rattle.jv_pool.specs.Constants.{Entry, NameAndDescriptor, named_at, utf8_in, utf8_at, at_index, usable, table_of, takes_two, kind_of, kind_at, class_name_at}
+use Rattle.jv_pool.specs.Constants.{Entry, NameAndDescriptor, named_at, utf8_in, utf8_at, at_index, usable, table_of, takes_two, kind_of, class_name_at}
 use Rattle.jv_pool.specs.Rules.{KeepsRules}
 use Rattle.jv_class.specs.Class.{Class, Field, Method, InitialValue, field_of, method_of, initial_value, value_of_constant, all_found, super_of, class_of}
 use Rattle.jv_class.specs.Class.InitialValue.{IntValue, LongValue, StringValue}

@@ -1,8 +1,6 @@
 -- Calls on objects: what invokevirtual, invokeinterface and invokespecial select can receive the object (JVMS 6.5, 4.10.1.9).
 use Rattle.std.proofs.Common.{◌≡◌, inl, ℕ, Bool, true, false, not, ◌&&◌, ◌||◌, List, ◌∷◌, ◌++◌, map, Option, Some, None, Ok, Err, refl, sym, ap, subst, ◌∙◌}
-use Rattle.std.specs.Prelude.{⊤, IsTrue, IsSome, slice_get}
-use Rattle.std.specs.List.{AllByRecursion, Contains}
-use Rattle.std.specs.Option.{ok_or}
+use Rattle.std.specs.Prelude.{IsTrue, IsSome, slice_get}
 use Rattle.jv_format.specs.Format as rules_format
 use Rattle.jv_text.specs.Descriptor.{MethodDescriptor}
 use Rattle.jv_text.specs.Name.{is_init}

@@ -6,11 +6,10 @@ use Rattle.std.proofs.lemmas.Bool.{le-leb}
 use Rattle.jv_stackmap.specs.declared.verification.VerificationTypeOf.TheVariants as types
 use Rattle.jv_stackmap.specs.Types.{FrameType}
 use Rattle.jv_meaning_typing.specs.FrameChanges as rules
-use Rattle.jv_meaning_typing.specs.FrameChanges.{is_of_kind}
 use Rattle.jv_meaning_machine.specs.Values.{Value}
 use Rattle.jv_meaning_machine.specs.Values.Value.{Int, Long, Null, Reference, Half, Unset}
 use Rattle.jv_meaning_machine.specs.Frames as machine
-use Rattle.jv_meaning_machine.specs.Frames.{local_words, local_value, local_at, without_half}
+use Rattle.jv_meaning_machine.specs.Frames.{without_half}
 use Rattle.jv_sound.specs.Values.{IsLong, Place, FitsIn, BeginsHalf, IsPaired, HasLocals}
 use Rattle.jv_sound.proofs.Logic.{clash, Alike}
 

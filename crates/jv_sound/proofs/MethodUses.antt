@@ -16,7 +16,7 @@ use Rattle.jv_meaning_world.proofs.Up.{above_by_ways, above_is_transitive}
 use Rattle.jv_meaning_world.proofs.Up.{has_name}
 use Rattle.jv_meaning_typing.specs.Uses.{Site, Use}
 use Rattle.jv_meaning_typing.specs.LinkErrors as link
-use Rattle.jv_meaning_typing.specs.LinkErrors.{LinkError, OrError, error_class}
+use Rattle.jv_meaning_typing.specs.LinkErrors.{LinkError, OrError}
 use Rattle.jv_meaning_typing.specs.LinkingLaws.{IsAtOrAbove, IsRootClass, IsNamed, IsCalled}
 use Rattle.jv_meaning_typing.specs.Operands.{MethodReference, method_operand}
 use Rattle.jv_meaning_typing.specs.ClassResolution.{ResolvedClass, resolve_text, member_class}

@@ -9,7 +9,7 @@ use Rattle.jv_code.specs.declared.insn.Insn.TheVariants as insns
 use Rattle.jv_class_structure.specs.Flags.{has, acc_interface, acc_abstract}
 use Rattle.jv_meaning_world.proofs.Up.{named_stands}
 use Rattle.jv_meaning_typing.specs.LinkErrors as link
-use Rattle.jv_meaning_typing.specs.LinkErrors.{LinkError, OrError, provided, error_class}
+use Rattle.jv_meaning_typing.specs.LinkErrors.{OrError, provided}
 use Rattle.jv_meaning_typing.specs.LinkErrors.LinkError.{InstantiationError}
 use Rattle.jv_meaning_typing.specs.Operands.{class_operand}
 use Rattle.jv_meaning_typing.specs.ClassResolution.{ResolvedClass, resolve_text, creatable}

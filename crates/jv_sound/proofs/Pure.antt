@@ -44,7 +44,7 @@ use Rattle.jv_sound.specs.Frames.{Holds, Holding, place_of}
 use Rattle.jv_sound.specs.Effects.{IsThrown, IsEffect, AreEffects}
 use Rattle.jv_sound.proofs.Logic.{Agrees, then2, holds, then_holds}
 use Rattle.jv_sound.specs.Memory.{AreLoadable}
-use Rattle.jv_sound.proofs.Types.{kind_fits, fits_in}
+use Rattle.jv_sound.proofs.Types.{fits_in}
 use Rattle.jv_sound.proofs.Heaps.{same}
 use Rattle.jv_sound.proofs.Taking.{taken_all}
 

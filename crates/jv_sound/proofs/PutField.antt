@@ -32,7 +32,7 @@ use Rattle.jv_meaning_machine.specs.Faults.{◌>>=◌}
 use Rattle.jv_meaning_machine.specs.Faults.Fault.{OffsetFault, ReferenceFault, ConstructionFault}
 use Rattle.jv_meaning_machine.specs.Values.{Value, narrowed}
 use Rattle.jv_meaning_machine.specs.Values.Value.{Null, Reference}
-use Rattle.jv_meaning_machine.specs.Objects.{Instance, Object, key_of, value_at, with_value}
+use Rattle.jv_meaning_machine.specs.Objects.{Instance, Object, key_of, value_at}
 use Rattle.jv_meaning_machine.specs.Objects.Object.{InstanceOf}
 use Rattle.jv_meaning_machine.specs.Operands.{popped_reference, taken_as}
 use Rattle.jv_meaning_machine.specs.Effects.{null_pointer}
@@ -44,7 +44,7 @@ use Rattle.jv_sound.specs.Sound.{IsSort}
 use Rattle.jv_sound.specs.Frames.{Holds}
 use Rattle.jv_sound.proofs.Logic.{clash, then2, then1, holds, then_holds, found_holds, tested_holds, handed_over}
 use Rattle.jv_sound.proofs.Types.{sort_has_type}
-use Rattle.jv_sound.proofs.Heaps.{with_set, set_later, moved, stack_later, fits_later, entries_later}
+use Rattle.jv_sound.proofs.Heaps.{with_set, set_later, stack_later, fits_later, entries_later}
 use Rattle.jv_sound.proofs.Taking.{and_parts, taken_one, popped_ok}
 use Rattle.jv_sound.proofs.Pure.{agrees_from}
 use Rattle.jv_sound.proofs.Storing.{set_typed, with_value_fits, with_value_keys}

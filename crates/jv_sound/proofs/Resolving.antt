@@ -15,9 +15,9 @@ use Rattle.jv_meaning_world.specs.Verdicts.{is_loadable}
 use Rattle.jv_meaning_world.proofs.Up.{named_stands, above_by_ways, above_is_transitive}
 use Rattle.jv_meaning_world.proofs.Standing.{loadable_by_all}
 use Rattle.jv_meaning_typing.specs.LinkErrors as link
-use Rattle.jv_meaning_typing.specs.LinkErrors.{LinkError, OrError, provided, unless_wrong, error_class}
-use Rattle.jv_meaning_typing.specs.LinkErrors.LinkError.{NoSuchFieldError, NoClassDefFoundError, IllegalAccessError}
-use Rattle.jv_meaning_typing.specs.ClassResolution.{ResolvedClass, error_of_class, resolve_text, resolve_name, member_class}
+use Rattle.jv_meaning_typing.specs.LinkErrors.{LinkError, OrError, provided, unless_wrong}
+use Rattle.jv_meaning_typing.specs.LinkErrors.LinkError.{NoClassDefFoundError, IllegalAccessError}
+use Rattle.jv_meaning_typing.specs.ClassResolution.{error_of_class, resolve_name, member_class}
 use Rattle.jv_meaning_typing.specs.ClassResolution.ResolvedClass.{ClassOf}
 use Rattle.jv_meaning_typing.specs.LinkingLaws.{IsAtOrAbove, IsNamed}
 use Rattle.jv_meaning_typing.proofs.Loading.{loadable_resolves}

@@ -12,7 +12,7 @@ use Rattle.jv_meaning_world.specs.Above.{above, superclass_in, superclasses}
 use Rattle.jv_meaning_world.specs.Overriding.{Declared}
 use Rattle.jv_meaning_world.specs.Verdicts.{is_interface, is_loadable}
 use Rattle.jv_meaning_world.specs.LookUps.{is_concrete}
-use Rattle.jv_meaning_world.proofs.Up.{named_stands, above_by_ways, above_is_transitive}
+use Rattle.jv_meaning_world.proofs.Up.{above_by_ways, above_is_transitive}
 use Rattle.jv_meaning_typing.specs.Kind.{is_static_method}
 use Rattle.jv_meaning_typing.specs.LinkingLaws.{IsRun}
 use Rattle.jv_meaning_typing.specs.Selection.{upward, begins_above, special_start}

@@ -1,6 +1,6 @@
 -- getstatic and putstatic (JVMS 6.5).
 use Rattle.std.proofs.Common.{◌≡◌, ℕ, suc, true, List, [], ◌∷◌, Option, Some, refl, sym, ap, subst, ◌∙◌}
-use Rattle.std.specs.Prelude.{⊤, IsTrue, is_some, slice_get}
+use Rattle.std.specs.Prelude.{⊤}
 use Rattle.std.specs.List.{Contains, list_any, flat_map, filter}
 use Rattle.std.specs.Str.{bytes_eq}
 use Rattle.jv_text.specs.declared.descriptor.FieldTypeOf.{FieldTypeOf}

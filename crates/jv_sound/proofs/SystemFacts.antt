@@ -11,7 +11,7 @@ use Rattle.jv_meaning_world.specs.World.{Loaded, World, loaded, class_named}
 use Rattle.jv_meaning_world.specs.Above.{above}
 use Rattle.jv_meaning_world.specs.Laws.Above.{IsWayUp}
 use Rattle.jv_meaning_world.specs.Verdicts.{is_interface, is_loadable}
-use Rattle.jv_meaning_world.proofs.Up.{none, named_stands, above_by_ways, super_is_named}
+use Rattle.jv_meaning_world.proofs.Up.{named_stands, above_by_ways, super_is_named}
 use Rattle.jv_meaning_typing.specs.LinkErrors.{LinkError, error_class}
 use Rattle.jv_meaning_typing.specs.LinkErrors.LinkError.{NoClassDefFoundError, ClassCircularityError, IncompatibleClassChangeError, IllegalAccessError, VerifyError, NoSuchFieldError, NoSuchMethodError, AbstractMethodError, InstantiationError}
 use Rattle.jv_meaning_world.proofs.OrderChains.{all_at, any_found}

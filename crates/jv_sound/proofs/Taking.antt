@@ -14,7 +14,7 @@ use Rattle.jv_meaning_machine.specs.Faults.{tested, ◌>>=◌}
 use Rattle.jv_meaning_machine.specs.Faults.Fault.{TagFault}
 use Rattle.jv_meaning_machine.specs.Values.{Value, has_kind, has_type}
 use Rattle.jv_meaning_machine.specs.Operands as machine
-use Rattle.jv_meaning_machine.specs.Operands.{usable_value, popped, popped_as, taken_as, taken_before}
+use Rattle.jv_meaning_machine.specs.Operands.{popped, popped_as, taken_as, taken_before}
 use Rattle.jv_sound.specs.Values.{Zip, Fits, Place, Item, HasStack}
 use Rattle.jv_sound.specs.Sound.{IsSort}
 use Rattle.jv_sound.proofs.Logic.{clash, Agrees, then2, both, nothing}

@@ -29,7 +29,6 @@ use Rattle.jv_meaning_machine.specs.Objects.Object.{InstanceOf, ArrayWith}
 use Rattle.jv_meaning_machine.specs.Calls.{is_constant_for}
 use Rattle.jv_meaning_machine.specs.Initialization.{is_verified}
 use Rattle.jv_sound.specs.Sound.{AreSorts, IsResultSort}
-use Rattle.jv_sound.proofs.Receiving.{run_enterable, run_received}
 use Rattle.jv_sound.proofs.ResolvedTypes.{reference_is_usable, same_option}
 use Rattle.jv_sound.proofs.StaticCalls.{plain_name}
 use Rattle.jv_sound.proofs.InstanceCalls.{HasCode, IsRoot, CanRun, IsClassOf, of_root, call_ok}

@@ -1,7 +1,7 @@
 -- The words of parameters are their slots; limits of a stack map's frames.
 use Rattle.std.proofs.Common.{◌≡◌, ℕ, zero, suc, ◌+◌, Bool, true, false, not, ◌&&◌, ◌==◌, List, [], ◌∷◌, ◌||◌, map, Option, Some, None, refl, sym, ap, ◌∙◌, arith}
-use Rattle.std.specs.Prelude.{⊤, IsTrue, IsSome, is_some, is_none, slice_get, codes, if◌then◌else◌}
-use Rattle.std.specs.List.{AllByRecursion, flat_map, list_all, list_any}
+use Rattle.std.specs.Prelude.{if◌then◌else◌}
+use Rattle.std.specs.List.{list_any}
 use Rattle.std.proofs.lemmas.List.Sums.{sum_by-cons}
 use Rattle.jv_text.specs.declared.descriptor.Base.TheVariants as bases
 use Rattle.jv_text.specs.declared.descriptor.Element.{Element}

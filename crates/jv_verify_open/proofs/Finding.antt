@@ -1,7 +1,7 @@
 -- What frames of a stack map want of a block of local variables, found of one frame after another.
-use Rattle.std.proofs.Common.{◌≡◌, ◌≢◌, ◌⊎◌, inl, inr, ℕ, ◌+◌, ◌*◌, ◌/◌, ◌<◌, ◌≤◌, min, List, length, get_or, set, refl, sym, ap, subst, ◌∙◌, arith}
+use Rattle.std.proofs.Common.{◌≡◌, ◌≢◌, ◌⊎◌, inl, inr, ℕ, ◌+◌, ◌*◌, ◌/◌, ◌<◌, ◌≤◌, min, List, length, get_or, sym, ap, subst, ◌∙◌, arith}
 use Rattle.std.proofs.lemmas.Bool.{cases_lt}
-use Rattle.std.proofs.lemmas.List.{get_or_past, get_or-set_other, get_or-set_same}
+use Rattle.std.proofs.lemmas.List.{get_or_past}
 use Rattle.jv_stackmap.specs.declared.verification.VerificationTypeOf.TheVariants as variants
 use Rattle.jv_stackmap.specs.Types.{FrameType}
 use Rattle.jv_verify_types.specs.Typed.{typed}

@@ -1,6 +1,6 @@
 -- Local variables against what is wanted of them, and against the frames that are open.
-use Rattle.std.proofs.Common.{◌≡◌, ◌⊎◌, inl, inr, ℕ, ◌+◌, ◌*◌, ◌/◌, ◌<◌, ◌≤◌, Bool, true, false, List, length, get_or, max, replicate, set, refl, sym, ap, subst, ◌∙◌, arith}
-use Rattle.std.proofs.Common.{zero, suc, ◌||◌, ◌==◌, [], ◌∷◌}
+use Rattle.std.proofs.Common.{◌≡◌, inl, inr, ℕ, ◌+◌, ◌*◌, ◌/◌, ◌<◌, ◌≤◌, Bool, true, false, List, length, get_or, max, replicate, set, refl, sym, ap, subst, ◌∙◌, arith}
+use Rattle.std.proofs.Common.{suc, ◌||◌, ◌==◌, [], ◌∷◌}
 use Rattle.std.specs.Prelude.{◌↔◌, IsTrue, slice_get, Option, Some, None, Result, Ok, Err, IfOk, OnOk, unwrap_or}
 use Rattle.std.specs.List.{list_any}
 use Rattle.std.specs.Option.{option_map}
@@ -17,9 +17,9 @@ use Rattle.jv_verify_types.specs.Numbered.{Item}
 use Rattle.jv_verify_types.specs.Mapped.{EntryTypes, names_of_types, world_of_types}
 use Rattle.jv_verify_frame.specs.Inside.Noted.{is_among, is_in_local}
 use Rattle.jv_verify_peaks.specs.Stretches.{AreAtMost}
-use Rattle.jv_verify_maps.specs.Words.{MapWords, words_at}
-use Rattle.jv_verify_known.specs.Known.{KnownLocals, HoldsSince, local_at, number_at, word_at}
-use Rattle.jv_verify_wants.specs.Wanted.{FlowsToWanted, IsAmong, IsWanted, Wants, wanted_at}
+use Rattle.jv_verify_maps.specs.Words.{MapWords}
+use Rattle.jv_verify_known.specs.Known.{KnownLocals, local_at, number_at, word_at}
+use Rattle.jv_verify_wants.specs.Wanted.{FlowsToWanted, IsAmong, IsWanted, wanted_at}
 use Rattle.jv_verify_wants.specs.Inside.Allowed.{AreAllowed}
 use Rattle.jv_verify_open.specs.Open.{end_of, holds, AllFlow, AreOpenAsBefore, AreWanting, FlowsToOpen, HaveFlowed, HaveRoom, IsTopOrWanted, OpenFrames}
 use Rattle.jv_verify_open.specs.Inside.Finding.{BlockFlows}

@@ -39,7 +39,7 @@ use Rattle.jv_meaning_typing.specs.FrameChanges.{with_stack, with_locals, is_of_
 use Rattle.jv_meaning_typing.specs.Named.{object_class_type, constant_type, long_constant_type, operand_type, operand_name, array_of_operand, array_operand, FieldUse, field_named_by, MethodUse, method_use, method_named_by, can_be_of, result_types, current_type, when}
 use Rattle.jv_meaning_typing.specs.NumberRules.{Exchange, fixed_exchange, computation, conversion, test, number_arrays, element_number}
 use Rattle.jv_meaning_typing.specs.ValueRules.{pushed, has_room, load, value_kind, store, increment, reference_component, with_component, is_array_or_null, array_length, take_reference, new_object, return_value, return_nothing}
-use Rattle.jv_meaning_typing.specs.MemberRules.{field_guard, sets_own_field, taken_for_store, access_field, is_of_class, has_plain_name, called_on, method_guard, counts_arguments, invoke_interface, is_near, invoke_super, constructed, construct_top, invoke_init, invoke, goes_with_version, invoke_rule}
+use Rattle.jv_meaning_typing.specs.MemberRules.{field_guard, sets_own_field, taken_for_store, access_field, is_of_class, has_plain_name, called_on, method_guard, counts_arguments, invoke_interface, is_near, invoke_super, construct_top, invoke_init, invoke, goes_with_version, invoke_rule}
 use Rattle.jv_meaning_typing.specs.Rule.{test_references, other_rule, by_exchange, effect, within_stack, rule, constructed_object}
 use Rattle.jv_verify_rules.specs.Laws.{StandsOn}
 

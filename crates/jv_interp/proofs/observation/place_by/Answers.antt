@@ -2,7 +2,6 @@ use Rattle.std.proofs.Common.{◌≡◌, ◌<◌, ℕ, List, Option, Some, lengt
 use Rattle.std.specs.Option.{option_map}
 use Rattle.jv_meaning_world.specs.World.{Loaded, World}
 use Rattle.jv_meaning_world.specs.Overriding.{Declared}
-use Rattle.jv_meaning_machine.specs.State.{ThrowPlace}
 use Rattle.jv_lookups.specs.Places.{IsMethodPlace, method_at}
 use Rattle.jv_interp_members.proofs.Sites.{at_place, is_place}
 use Rattle.jv_interp.proofs.PlaceShown.{there}

@@ -1,4 +1,4 @@
-use Rattle.std.proofs.Common.{◌≡◌, ◌∙◌, ℕ, Bool, ap}
+use Rattle.std.proofs.Common.{◌∙◌, Bool, ap}
 use Rattle.std.specs.Prelude.{if◌then◌else◌}
 use Rattle.jv_interp_instructions.proofs.ArraysLoaded.{can_load_as, loaded_as}
 use Rattle.jv_interp_instructions.proofs.array_loads.execute_array_load.Goals as goal

@@ -1,4 +1,4 @@
-use Rattle.std.proofs.Common.{◌≡◌, ◌∙◌, ℕ, Option, Some, sym, ap, subst}
+use Rattle.std.proofs.Common.{ℕ, Option, subst}
 use Rattle.jv_interp_instructions.specs.PoolConstants.{IsLongOf}
 use Rattle.jv_interp_instructions.proofs.LongsPushed.{some_long, can_push_long, long_done}
 use Rattle.jv_interp_instructions.proofs.long_constants.execute_pool_long_constant.Goals as goal

@@ -1,6 +1,6 @@
 use Rattle.std.specs.Int.{w64, cast_signed}
 use Rattle.std.specs.Option.{option_map}
-use Rattle.std.proofs.Common.{rules, ◌≡◌, ◌∙◌, ℕ, List, Some, None, sym, ap, subst, slice_get}
+use Rattle.std.proofs.Common.{rules, ◌≡◌, ◌∙◌, List, Some, None, ap, subst, slice_get}
 use Rattle.jv_pool.specs.Constants.{Entry, long_at}
 use Rattle.jv_interp_words.specs.ValuesInWords.{long_of}
 use Rattle.jv_meaning_world.specs.World.{Loaded, World}

@@ -1,7 +1,7 @@
-use Rattle.std.proofs.Common.{◌≡◌, ◌∙◌, ℤ, ap, refl, rules, FitsSigned, w16, w32}
+use Rattle.std.proofs.Common.{◌∙◌, ℤ, ap, refl, rules, FitsSigned, w16, w32}
 use Rattle.jv_code.specs.declared.insn.Insn.TheVariants as insns
 use Rattle.std.proofs.lemmas.Int.{to_z-of_z}
-use Rattle.jv_interp_instructions.proofs.Done.{went_done, value_done, nothing_done, branch_done_again, increment_again, insn_again, table_again}
+use Rattle.jv_interp_instructions.proofs.Done.{went_done, nothing_done, increment_again, insn_again, table_again}
 use Rattle.jv_interp_held.proofs.Unmoved.{stays_unmoved}
 use Rattle.jv_interp_instructions.proofs.on_words.execute_on_words.Goals as goal
 

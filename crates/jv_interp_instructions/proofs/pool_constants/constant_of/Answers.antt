@@ -1,7 +1,7 @@
 use Rattle.std.specs.Int.{w32, cast_signed, cast_unsigned}
 use Rattle.std.specs.Option.{option_map}
 use Rattle.std.proofs.lemmas.Int.{to_z-of_z}
-use Rattle.std.proofs.Common.{◌≡◌, ◌∙◌, ℕ, ℤ, List, Some, None, sym, ap, subst, slice_get}
+use Rattle.std.proofs.Common.{◌∙◌, ℕ, ℤ, List, Some, None, sym, ap, subst, slice_get}
 use Rattle.jv_pool.specs.Constants.{Entry, at_index, string_at, integer_at}
 use Rattle.jv_meaning_world.specs.World.{Loaded, World}
 use Rattle.jv_meaning_machine.specs.Literals.{pushed_constant}

@@ -1,4 +1,4 @@
-use Rattle.std.proofs.Common.{◌≡◌, ◌∙◌, ℕ, Option, Some, sym, ap, subst}
+use Rattle.std.proofs.Common.{◌∙◌, Option, Some, ap, subst}
 use Rattle.std.proofs.lemmas.Result.{IfOk-weaker}
 use Rattle.jv_interp_instructions.specs.declared.pool_constants.PoolConstant.{PoolConstant}
 use Rattle.jv_interp_instructions.specs.PoolConstants.{IsConstantOf}

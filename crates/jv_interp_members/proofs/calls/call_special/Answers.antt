@@ -1,5 +1,5 @@
-use Rattle.std.proofs.Common.{◌≡◌, ℕ, ◌-◌, ◌<◌, length, sym, subst, ◌∙◌, get_or, arith}
-use Rattle.std.specs.Prelude.{Result, Ok, Err}
+use Rattle.std.proofs.Common.{ℕ, ◌-◌, sym, subst, arith}
+use Rattle.std.specs.Prelude.{Ok, Err}
 use Rattle.jv_link.specs.declared.site.Use.TheVariants as uses
 use Rattle.jv_link.specs.Objects.{IsObject}
 use Rattle.jv_interp_members.specs.Known.{known}

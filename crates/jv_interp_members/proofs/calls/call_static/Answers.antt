@@ -1,9 +1,9 @@
-use Rattle.std.proofs.Common.{◌≡◌, ℕ, Bool, sym, ◌∙◌, arith}
+use Rattle.std.proofs.Common.{sym, ◌∙◌, arith}
 use Rattle.jv_link.specs.declared.site.Use.TheVariants as uses
 use Rattle.jv_interp_members.specs.Known.{known}
 use Rattle.jv_interp_held.specs.Executing.{place}
 use Rattle.jv_interp_members.proofs.AtSite.{failed}
-use Rattle.jv_interp_members.proofs.StaticWork.{f, at, few_classes, begins, few, enters, writes, reads, names, likes}
+use Rattle.jv_interp_members.proofs.StaticWork.{f, at, begins, few, enters, writes, reads, names, likes}
 use Rattle.jv_interp_members.proofs.calls.call_static.Goals as goal
 
 pub returns-in-Err-clause-calls : goal.returns-in-Err-clause-calls

@@ -1,8 +1,8 @@
-use Rattle.std.proofs.Common.{◌≡◌, ℕ, Bool, refl, sym, ap, ◌∙◌, arith, if◌then◌else◌}
+use Rattle.std.proofs.Common.{Bool, refl, ap, ◌∙◌, arith, if◌then◌else◌}
 use Rattle.jv_code.specs.declared.kinds.FieldAccess.TheVariants as access
 use Rattle.jv_interp_members.specs.Known.{known}
 use Rattle.jv_interp_held.specs.Executing.{place}
-use Rattle.jv_interp_members.proofs.UsedAtSite.{has_operand, it, failed, d, words_are, few, not_static_get, getting}
+use Rattle.jv_interp_members.proofs.UsedAtSite.{has_operand, failed, d, words_are, few, not_static_get, getting}
 use Rattle.jv_interp_members.proofs.fields.getfield.Goals as goal
 
 pub used-requires-clause-index : goal.used-requires-clause-index

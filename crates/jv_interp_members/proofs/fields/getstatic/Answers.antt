@@ -1,4 +1,4 @@
-use Rattle.std.proofs.Common.{◌≡◌, ℕ, Bool, refl, sym, ap, ◌∙◌, arith, if◌then◌else◌}
+use Rattle.std.proofs.Common.{Bool, refl, sym, ap, ◌∙◌, if◌then◌else◌}
 use Rattle.jv_code.specs.declared.kinds.FieldAccess.TheVariants as access
 use Rattle.jv_interp_members.specs.Known.{known}
 use Rattle.jv_interp_held.specs.Executing.{place}

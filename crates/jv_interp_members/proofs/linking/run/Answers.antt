@@ -1,6 +1,4 @@
-use Rattle.std.proofs.Common.{◌≡◌, ℕ, Option, Some, Ok, Err, subst, slice_get}
-use Rattle.jv_meaning_world.specs.Overriding.{Declared}
-use Rattle.jv_lookups.specs.Places.{method_at}
+use Rattle.std.proofs.Common.{ℕ, Option, Ok, Err, subst}
 use Rattle.jv_meaning_typing.specs.Selection.{select}
 use Rattle.jv_link.specs.Seen.{seen_use}
 use Rattle.jv_link.specs.Objects.{object_class_at}

@@ -1,4 +1,4 @@
-use Rattle.std.proofs.Common.{◌≡◌, ◌<◌, ◌≤◌, ◌+◌, List, ◌++◌, length, ap, subst, arith, sym, ◌∙◌, length-append}
+use Rattle.std.proofs.Common.{◌+◌, List, ◌++◌, length, ap, subst, arith, ◌∙◌, length-append}
 use Rattle.std.proofs.lemmas.List.{length-map}
 use Rattle.jv_meaning_world.specs.World.{Loaded}
 use Rattle.jv_meaning_world.specs.Overriding.{Declared}

@@ -1,4 +1,4 @@
-use Rattle.std.proofs.Common.{◌≡◌, ℕ, ◌<◌, ◌≤◌, ◌+◌, length, ap, sym, ◌∙◌, arith}
+use Rattle.std.proofs.Common.{◌≡◌, ℕ, ◌<◌, ◌+◌, length, ap, ◌∙◌, arith}
 use Rattle.jv_interp_words.specs.FramesInWords.{methods_of}
 use Rattle.std.proofs.Common.{take}
 use Rattle.jv_interp_members.proofs.OfClasses.{item_at, class_joins, first_joins, methods_made}

@@ -1,4 +1,4 @@
-use Rattle.std.proofs.Common.{sym, ap, ◌∙◌}
+use Rattle.std.proofs.Common.{sym, ◌∙◌}
 use Rattle.jv_interp_objects.proofs.NamedTypes.{element_found, element_missing}
 use Rattle.jv_interp_objects.proofs.naming.element_number.Goals as goal
 

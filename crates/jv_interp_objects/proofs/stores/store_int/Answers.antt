@@ -1,5 +1,4 @@
-use Rattle.std.proofs.Common.{◌≡◌, ℕ, ◌+◌, ◌-◌, ◌<◌, [], ◌∷◌, length, refl, sym, ap, subst, get_or, arith}
-use Rattle.jv_interp_heap.specs.ObjectsInBlocks.{Blocks}
+use Rattle.std.proofs.Common.{◌≡◌, ℕ, ◌-◌, ◌<◌, [], ◌∷◌, length, refl, ap, get_or, arith}
 use Rattle.jv_interp_held.specs.Executing.{place}
 use Rattle.jv_interp_objects.proofs.StoredIn.{one_above}
 use Rattle.jv_interp_objects.proofs.StoredThere.{below_one, all_there, null_raises, in_array, count_word, block_size, few_values, outside_raises, word_stored}

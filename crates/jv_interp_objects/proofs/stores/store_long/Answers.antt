@@ -1,4 +1,4 @@
-use Rattle.std.proofs.Common.{◌≡◌, ℕ, ◌+◌, ◌-◌, ◌*◌, ◌<◌, List, [], ◌∷◌, length, refl, sym, ap, subst, ◌∙◌, get_or, arith}
+use Rattle.std.proofs.Common.{◌≡◌, ℕ, ◌+◌, ◌-◌, ◌*◌, ◌<◌, List, [], ◌∷◌, length, refl, ap, ◌∙◌, get_or, arith}
 use Rattle.std.proofs.lemmas.List.{length-set}
 use Rattle.jv_store.specs.Content.{words_at, written}
 use Rattle.jv_interp_heap.specs.ObjectsInBlocks.{Blocks}

@@ -1,7 +1,7 @@
 use Rattle.std.proofs.Common.{subst}
 use Rattle.jv_meaning_world.specs.World.{Loaded}
 use Rattle.jv_interp_objects.specs.Texts.{AreTextsOf}
-use Rattle.std.proofs.Common.{◌≡◌, ◌+◌, ◌∙◌, length, ap, arith, length-append}
+use Rattle.std.proofs.Common.{◌∙◌, length, ap, arith, length-append}
 use Rattle.jv_interp_objects.proofs.InTexts.{one_class_more}
 use Rattle.jv_interp_objects.proofs.texts.all_texts.Goals as goal
 

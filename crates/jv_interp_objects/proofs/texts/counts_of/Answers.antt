@@ -1,4 +1,4 @@
-use Rattle.std.proofs.Common.{◌≡◌, ◌+◌, ◌∙◌, ℕ, length, subst, ap, arith, length-append}
+use Rattle.std.proofs.Common.{◌∙◌, ℕ, length, subst, ap, arith, length-append}
 use Rattle.jv_interp_objects.specs.Texts.{HasText}
 use Rattle.jv_interp_objects.proofs.InTexts.{no_counts, one_count}
 use Rattle.jv_interp_objects.proofs.texts.counts_of.Goals as goal

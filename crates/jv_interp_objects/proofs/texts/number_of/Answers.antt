@@ -1,6 +1,4 @@
-use Rattle.std.proofs.Common.{sym, subst, ap, ◌∙◌, ◌≡◌, arith}
-use Rattle.jv_classes.specs.Names.{with_name}
-use Rattle.jv_interp_objects.specs.Inside.Numbering.{Numbers}
+use Rattle.std.proofs.Common.{sym, ◌∙◌, arith}
 use Rattle.jv_interp_objects.proofs.InTexts.{joined_numbers, found_text}
 use Rattle.jv_interp_objects.proofs.texts.number_of.Goals as goal
 

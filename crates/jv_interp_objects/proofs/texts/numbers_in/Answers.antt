@@ -1,6 +1,5 @@
-use Rattle.std.proofs.Common.{◌≡◌, ◌+◌, ◌∙◌, ℕ, List, length, sym, subst, ap, arith, length-append}
-use Rattle.std.specs.Prelude.{All}
-use Rattle.jv_interp_objects.specs.Inside.Numbering.{IsKnown, IsNumberAt}
+use Rattle.std.proofs.Common.{◌∙◌, ℕ, length, sym, subst, ap, arith, length-append}
+use Rattle.jv_interp_objects.specs.Inside.Numbering.{IsNumberAt}
 use Rattle.jv_interp_objects.proofs.InTexts.{same_numbers, numbers_go_on, none_before, one_before, before_grown, written_back}
 use Rattle.jv_interp_objects.proofs.texts.numbers_in.Goals as goal
 

@@ -1,7 +1,7 @@
-use Rattle.std.proofs.Common.{◌≡◌, ◌<◌, ◌∙◌, ℕ, List, length, sym, subst, ap}
+use Rattle.std.proofs.Common.{◌<◌, ◌∙◌, ℕ, List, sym, subst}
 use Rattle.jv_pool.specs.Constants.{Entry}
 use Rattle.jv_interp_objects.specs.Texts.{AreNumbers}
-use Rattle.jv_interp_objects.proofs.InTexts.{all_before, pool_of, string_within, same_numbers}
+use Rattle.jv_interp_objects.proofs.InTexts.{all_before, pool_of, string_within}
 use Rattle.jv_interp_objects.proofs.texts.texts_of.Goals as goal
 
 pub returns-in_ok-numbers-in-Some-clause-texts : goal.returns-in_ok-numbers-in-Some-clause-texts

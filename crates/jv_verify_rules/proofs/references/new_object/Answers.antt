@@ -1,6 +1,5 @@
-use Rattle.std.proofs.Common.{sym, ap, subst, ◌∙◌, List}
-use Rattle.jv_verify_types.specs.Typed.{typed}
-use Rattle.jv_verify_types.specs.Numbered.{Item, NumberFrame, with_locals, ReplacesAny}
+use Rattle.std.proofs.Common.{sym, ap, subst, ◌∙◌}
+use Rattle.jv_verify_types.specs.Numbered.{NumberFrame, with_locals, ReplacesAny}
 use Rattle.jv_stackmap.specs.declared.verification.VerificationTypeOf.TheVariants as types
 use Rattle.jv_verify_rules.proofs.NewObjects.{made, not_made}
 use Rattle.jv_verify_rules.proofs.references.new_object.Goals as goal

@@ -1,4 +1,4 @@
-use Rattle.std.proofs.Common.{ℕ, List, ap}
+use Rattle.std.proofs.Common.{ap}
 use Rattle.std.proofs.lemmas.Result.{IfOk-weaker}
 use Rattle.jv_code.specs.Insns.{instruction_of}
 use Rattle.jv_interp_held.specs.declared.held.Held.{Held}

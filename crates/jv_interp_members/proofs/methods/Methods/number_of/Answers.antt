@@ -1,4 +1,4 @@
-use Rattle.std.proofs.Common.{◌≡◌, ◌<◌, ◌≤◌, ◌+◌, refl, arith, sym, subst, ◌∙◌, length}
+use Rattle.std.proofs.Common.{◌<◌, refl, arith, length}
 use Rattle.std.proofs.lemmas.Option.{slice_get_read}
 use Rattle.jv_interp_members.proofs.Numbered.{numbered, no_first}
 use Rattle.jv_interp_members.proofs.methods.Methods.number_of.Goals as goal

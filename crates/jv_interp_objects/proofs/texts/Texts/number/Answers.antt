@@ -1,6 +1,5 @@
-use Rattle.std.proofs.Common.{◌≡◌, ◌<◌, ◌≤◌, ◌∙◌, ℕ, List, Some, length, sym, subst, ap, refl, arith, slice_get}
+use Rattle.std.proofs.Common.{◌≡◌, ◌<◌, ◌∙◌, ℕ, Some, length, sym, subst, ap, refl, arith, slice_get}
 use Rattle.std.proofs.lemmas.Option.{slice_get_read, slice_get_within}
-use Rattle.jv_meaning_world.specs.World.{World, Loaded}
 use Rattle.jv_interp_objects.specs.declared.texts.ClassTexts.{ClassTexts}
 use Rattle.jv_interp_objects.specs.Texts.{HasText}
 use Rattle.jv_interp_objects.proofs.InTexts.{text_at, some_same}

@@ -1,4 +1,4 @@
-use Rattle.std.proofs.Common.{◌≡◌, ◌≤◌, ◌<◌, ◌-◌, ◌*◌, ◌+◌, length, ℕ}
+use Rattle.std.proofs.Common.{◌≤◌, ◌<◌, ◌-◌, ◌*◌, length, ℕ}
 use Rattle.jv_verify_known.specs.Known.{local_at}
 use Rattle.jv_verify_open.specs.Open.{AreOpenAsBefore, AreWanting, FlowsToOpen}
 use Rattle.jv_verify_open.proofs.frames.OpenFrames.block_flows.Given as goal

@@ -1,8 +1,7 @@
-use Rattle.std.proofs.Common.{◌≡◌, ◌≢◌, ◌/◌, ℕ, List, length, get_or, refl, sym, ap, subst, ◌∙◌, arith}
+use Rattle.std.proofs.Common.{◌/◌, length, get_or, refl, sym, ap, subst, ◌∙◌, arith}
 use Rattle.std.proofs.lemmas.Grind.{get_or_default_zero}
 use Rattle.std.proofs.lemmas.List.{get_or-set_other}
-use Rattle.jv_verify_peaks.specs.Stretches.{AreAtMost, IsFirstAbove}
-use Rattle.jv_verify_open.specs.Open.{AreOpenAsBefore, OpenFrames}
+use Rattle.jv_verify_open.specs.Open.{OpenFrames}
 use Rattle.jv_verify_open.specs.Inside.Finding.{AreFoundBelow}
 use Rattle.jv_verify_open.proofs.Flowing.{same_again}
 use Rattle.jv_verify_open.proofs.Finding.{all_found, first_of, found_more, found_none, most_of, none_below, same_found}

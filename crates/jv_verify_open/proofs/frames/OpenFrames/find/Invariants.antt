@@ -1,4 +1,4 @@
-use Rattle.std.proofs.Common.{◌≡◌, ◌≤◌, ◌-◌, get_or, length, ℕ}
+use Rattle.std.proofs.Common.{◌≡◌, ◌≤◌, ◌-◌, length}
 use Rattle.jv_verify_open.specs.Open.{AreOpenAsBefore}
 use Rattle.jv_verify_open.specs.Inside.Finding.{AreFoundBelow}
 use Rattle.jv_verify_open.proofs.frames.OpenFrames.find.Given as goal

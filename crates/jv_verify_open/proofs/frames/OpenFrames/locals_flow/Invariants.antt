@@ -1,4 +1,4 @@
-use Rattle.std.proofs.Common.{◌≡◌, ◌≤◌, ◌<◌, ◌-◌, get_or, length, ℕ}
+use Rattle.std.proofs.Common.{◌<◌, ◌-◌, get_or, length, ℕ}
 use Rattle.jv_verify_open.specs.Open.{AreOpenAsBefore, AreWanting}
 use Rattle.jv_verify_open.specs.Inside.Finding.{BlockFlows}
 use Rattle.jv_verify_open.proofs.frames.OpenFrames.locals_flow.Given as goal

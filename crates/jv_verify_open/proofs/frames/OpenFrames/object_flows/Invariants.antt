@@ -1,4 +1,4 @@
-use Rattle.std.proofs.Common.{◌≡◌, ◌<◌, ◌-◌, ℕ, true, get_or, length}
+use Rattle.std.proofs.Common.{◌≡◌, ◌<◌, ◌-◌, ℕ, true, get_or}
 use Rattle.jv_stackmap.specs.declared.verification.VerificationTypeOf.TheVariants as variants
 use Rattle.jv_verify_types.specs.Mapped.{names_of_types}
 use Rattle.jv_verify_open.specs.Open.{holds, AreOpenAsBefore, AreWanting, FlowsToOpen}

@@ -1,4 +1,4 @@
-use Rattle.std.proofs.Common.{◌<◌, ◌≤◌, ℕ, length, get_or, refl, sym, ap, subst, arith}
+use Rattle.std.proofs.Common.{◌<◌, length, refl, sym, subst}
 use Rattle.jv_verify_open.specs.Open.{AreWanting, OpenFrames}
 use Rattle.jv_verify_open.proofs.Flowing.{opened_more}
 use Rattle.jv_verify_open.proofs.frames.OpenFrames.open.Goals as goal

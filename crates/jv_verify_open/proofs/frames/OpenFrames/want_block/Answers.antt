@@ -1,4 +1,4 @@
-use Rattle.std.proofs.Common.{◌≡◌, ◌+◌, ◌*◌, ℕ, min, refl, sym, ap, subst, ◌∙◌, arith}
+use Rattle.std.proofs.Common.{◌+◌, min, refl, sym, subst, arith}
 use Rattle.jv_verify_open.specs.Open.{OpenFrames}
 use Rattle.jv_verify_open.specs.Inside.Finding.{AreFoundOf}
 use Rattle.jv_verify_open.proofs.Finding.{some_open}
