@@ -3,7 +3,7 @@ package java.io;
 public class BufferedReader extends CharReader {
     private static final int NONE = -2;
 
-    private final Reader in;
+    private Reader in;
     private char[] line = new char[80];
     private int next = NONE;
     /** What was read behind the mark, null without one, and how much of it is to be read again. */
@@ -80,6 +80,10 @@ public class BufferedReader extends CharReader {
 
     public void close() throws IOException {
         in.close();
+        in = new InputStreamReader(new ClosedInput());
+        next = NONE;
+        again = 0;
+        marked = null;
     }
 
     public String readLine() throws IOException {

@@ -2,7 +2,7 @@ package java.io;
 
 /** Hands on what it gets, and keeps nothing back. */
 public class BufferedWriter extends CharWriter {
-    private final Writer out;
+    private Writer out;
 
     public BufferedWriter(Writer out) {
         this.out = out;
@@ -26,5 +26,6 @@ public class BufferedWriter extends CharWriter {
 
     public void close() throws IOException {
         out.close();
+        out = new OutputStreamWriter(new Closed());
     }
 }

@@ -4,22 +4,29 @@ package java.io;
 public final class HostInput extends InputStream {
     static final int NONE = -1;
 
-    /** The byte that was found to wait, or NONE. */
+    private static final int CLOSED = -2;
+
+    /** The byte that was found to wait, or NONE, or CLOSED for good. */
     static int waiting = NONE;
 
-    public int read() {
+    public int read() throws IOException {
         int b = waiting;
         if (b == NONE) {
             return host.Io.read();
+        }
+        if (b == CLOSED) {
+            throw new IOException("Stream closed");
         }
         waiting = NONE;
         return b;
     }
 
-    public int available() {
-        if (waiting == NONE) {
-            waiting = host.Io.read();
-        }
+    public int available() throws IOException {
+        waiting = read();
         return waiting == NONE ? 0 : 1;
+    }
+
+    public void close() {
+        waiting = CLOSED;
     }
 }

@@ -7,7 +7,7 @@ import java.nio.charset.StandardCharsets;
 public class InputStreamReader extends CharReader {
     private static final int NONE = -2;
 
-    private final InputStream in;
+    private InputStream in;
     private final boolean isHost;
     private final Charset charset;
     private int low = -1;
@@ -87,5 +87,8 @@ public class InputStreamReader extends CharReader {
 
     public void close() throws IOException {
         in.close();
+        in = new ClosedInput();
+        low = -1;
+        next = NONE;
     }
 }

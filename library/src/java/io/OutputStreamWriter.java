@@ -5,7 +5,7 @@ import java.nio.charset.StandardCharsets;
 
 /** Chars as bytes, of UTF-8 or of one byte each: `?` for half of a pair, and for what the charset lacks. */
 public class OutputStreamWriter extends CharWriter {
-    private final OutputStream out;
+    private OutputStream out;
     private final int greatest;
     private int high;
 
@@ -65,5 +65,6 @@ public class OutputStreamWriter extends CharWriter {
 
     public void close() throws IOException {
         out.close();
+        out = new Closed();
     }
 }

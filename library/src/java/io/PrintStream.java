@@ -1,10 +1,11 @@
 package java.io;
 
-/** Prints values. What goes wrong below is not told. */
+/** Prints values. What goes wrong below is only told by checkError. */
 public class PrintStream extends OutputStream implements Appendable {
-    private final OutputStreamWriter to;
-    private final OutputStream out;
-    private final boolean direct;
+    private OutputStreamWriter to;
+    private OutputStream out;
+    private boolean direct;
+    private boolean failed;
 
     public PrintStream(OutputStream out) {
         this.out = out;
@@ -28,7 +29,7 @@ public class PrintStream extends OutputStream implements Appendable {
             try {
                 to.write(c);
             } catch (IOException e) {
-                return;
+                failed = true;
             }
         }
     }
@@ -61,7 +62,7 @@ public class PrintStream extends OutputStream implements Appendable {
             try {
                 out.write(b);
             } catch (IOException e) {
-                return;
+                failed = true;
             }
         }
     }
@@ -77,7 +78,7 @@ public class PrintStream extends OutputStream implements Appendable {
             try {
                 out.flush();
             } catch (IOException e) {
-                return;
+                failed = true;
             }
         }
     }
@@ -87,13 +88,16 @@ public class PrintStream extends OutputStream implements Appendable {
             try {
                 out.close();
             } catch (IOException e) {
-                return;
+                failed = true;
             }
+            out = new Closed();
+            to = new OutputStreamWriter(out);
+            direct = false;
         }
     }
 
     public boolean checkError() {
-        return false;
+        return failed;
     }
 
     public void print(String text) {

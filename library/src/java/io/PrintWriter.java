@@ -1,8 +1,9 @@
 package java.io;
 
-/** Prints values. What goes wrong below is not told. */
+/** Prints values. What goes wrong below is only told by checkError. */
 public class PrintWriter extends CharWriter {
-    private final Writer to;
+    private Writer to;
+    private boolean failed;
 
     public PrintWriter(OutputStream out) {
         this.to = new OutputStreamWriter(out);
@@ -25,7 +26,7 @@ public class PrintWriter extends CharWriter {
             try {
                 to.write(c);
             } catch (IOException e) {
-                return;
+                failed = true;
             }
         }
     }
@@ -65,7 +66,7 @@ public class PrintWriter extends CharWriter {
         try {
             to.flush();
         } catch (IOException e) {
-            return;
+            failed = true;
         }
     }
 
@@ -73,12 +74,13 @@ public class PrintWriter extends CharWriter {
         try {
             to.close();
         } catch (IOException e) {
-            return;
+            failed = true;
         }
+        to = new OutputStreamWriter(new Closed());
     }
 
     public boolean checkError() {
-        return false;
+        return failed;
     }
 
     public void print(String text) {

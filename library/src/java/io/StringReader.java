@@ -33,6 +33,9 @@ public class StringReader extends CharReader {
     }
 
     public boolean ready() throws IOException {
+        if (text == null) {
+            throw new IOException("Stream closed");
+        }
         return true;
     }
 

@@ -39,7 +39,7 @@ public final class Causes {
 
     public static void suppress(Throwable of, Throwable other) {
         if (other == of) {
-            throw new IllegalArgumentException("Self-suppression not permitted");
+            throw new IllegalArgumentException("Self-suppression not permitted", of);
         }
         if (other == null) {
             throw new NullPointerException("Cannot suppress a null exception.");

@@ -136,9 +136,14 @@ public final class Long extends Number implements Comparable<Long> {
         return String.of(chars);
     }
 
+    /** A radix that there isn't counts as 10. */
+    private static int known(int radix) {
+        return radix < Character.MIN_RADIX || radix > Character.MAX_RADIX ? 10 : radix;
+    }
+
     public static String toString(long l, int radix) {
         char[] chars = new char[65];
-        return String.of(chars, put(l, radix, chars, 65), 65);
+        return String.of(chars, put(l, known(radix), chars, 65), 65);
     }
 
     static String unsigned(long l, int bits) {
@@ -287,8 +292,9 @@ public final class Long extends Number implements Comparable<Long> {
         if (l >= 0) {
             return toString(l, radix);
         }
-        long front = divideUnsigned(l, radix);
-        return toString(front, radix).concat(toString(l - front * radix, radix));
+        int by = known(radix);
+        long front = divideUnsigned(l, by);
+        return toString(front, by).concat(toString(l - front * by, by));
     }
 
     public static long parseUnsignedLong(String text) {

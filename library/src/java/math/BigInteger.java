@@ -7,8 +7,10 @@ import java.util.Random;
 public class BigInteger extends Number implements Comparable<BigInteger> {
     private static final long MASK = 0xffffffffL;
     private static final int[] NOTHING = {};
+    /** Those of -16 to 16 that were asked for: there is one of each. */
+    private static final BigInteger[] SMALL = new BigInteger[33];
 
-    public static final BigInteger ZERO = new BigInteger(0, NOTHING);
+    public static final BigInteger ZERO = valueOf(0);
     public static final BigInteger ONE = valueOf(1);
     public static final BigInteger TEN = valueOf(10);
 
@@ -24,6 +26,12 @@ public class BigInteger extends Number implements Comparable<BigInteger> {
         }
         this.sign = n == 0 ? 0 : sign;
         this.digits = n == digits.length ? digits : Arrays.copyOf(digits, n);
+    }
+
+    /** What a size and a sign are, and ZERO itself for 0. */
+    private static BigInteger of(int sign, int[] digits) {
+        BigInteger r = new BigInteger(sign, digits);
+        return r.sign == 0 ? ZERO : r;
     }
 
     public BigInteger(String text) {
@@ -100,6 +108,9 @@ public class BigInteger extends Number implements Comparable<BigInteger> {
     }
 
     private static int[] parse(String text, int from, int radix) {
+        if (radix != known(radix)) {
+            throw new NumberFormatException("Radix out of range");
+        }
         if (from == text.length()) {
             throw new NumberFormatException("Zero length BigInteger");
         }
@@ -117,6 +128,11 @@ public class BigInteger extends Number implements Comparable<BigInteger> {
         return all;
     }
 
+    /** A radix that there isn't counts as 10. */
+    private static int known(int radix) {
+        return radix < Character.MIN_RADIX || radix > Character.MAX_RADIX ? 10 : radix;
+    }
+
     private static int bitsFor(int radix) {
         return 32 - Integer.numberOfLeadingZeros(radix - 1);
     }
@@ -131,9 +147,17 @@ public class BigInteger extends Number implements Comparable<BigInteger> {
     }
 
     public static BigInteger valueOf(long l) {
+        boolean isSmall = l >= -16 && l <= 16;
+        if (isSmall && SMALL[(int) l + 16] != null) {
+            return SMALL[(int) l + 16];
+        }
         long size = Math.abs(l);
         int[] two = {(int) size, (int) (size >>> 32)};
-        return new BigInteger(l < 0 ? -1 : 1, two);
+        BigInteger r = new BigInteger(l < 0 ? -1 : 1, two);
+        if (isSmall) {
+            SMALL[(int) l + 16] = r;
+        }
+        return r;
     }
 
     // ---- sizes, which have no sign
@@ -307,7 +331,7 @@ public class BigInteger extends Number implements Comparable<BigInteger> {
         if (sign == other.sign) {
             return new BigInteger(sign, sum(digits, other.digits));
         }
-        return compare(digits, other.digits) >= 0 ? new BigInteger(sign, difference(digits, other.digits))
+        return compare(digits, other.digits) >= 0 ? of(sign, difference(digits, other.digits))
             : new BigInteger(other.sign, difference(other.digits, digits));
     }
 
@@ -316,7 +340,7 @@ public class BigInteger extends Number implements Comparable<BigInteger> {
     }
 
     public BigInteger multiply(BigInteger other) {
-        return new BigInteger(sign * other.sign, product(digits, other.digits));
+        return of(sign * other.sign, product(digits, other.digits));
     }
 
     public BigInteger pow(int n) {
@@ -348,10 +372,10 @@ public class BigInteger extends Number implements Comparable<BigInteger> {
         if (other.digits.length == 1) {
             int[] q = Arrays.copyOf(digits, digits.length);
             int[] rest = {divideBy(q, q.length, other.digits[0])};
-            return new BigInteger[] {new BigInteger(sign * other.sign, q), new BigInteger(sign, rest)};
+            return new BigInteger[] {new BigInteger(sign * other.sign, q), of(sign, rest)};
         }
         int[][] both = longDivision(digits, other.digits);
-        return new BigInteger[] {new BigInteger(sign * other.sign, both[0]), new BigInteger(sign, both[1])};
+        return new BigInteger[] {new BigInteger(sign * other.sign, both[0]), of(sign, both[1])};
     }
 
     public BigInteger divide(BigInteger other) {
@@ -490,7 +514,7 @@ public class BigInteger extends Number implements Comparable<BigInteger> {
     // ---- bits, of the two's complement
 
     public BigInteger shiftLeft(int n) {
-        return n < 0 ? shiftRight(-n) : new BigInteger(sign, shiftedLeft(digits, n));
+        return n < 0 ? shiftRight(-n) : of(sign, shiftedLeft(digits, n));
     }
 
     public BigInteger shiftRight(int n) {
@@ -666,10 +690,11 @@ public class BigInteger extends Number implements Comparable<BigInteger> {
         return toString(10);
     }
 
-    public String toString(int radix) {
+    public String toString(int given) {
         if (sign == 0) {
             return "0";
         }
+        int radix = known(given);
         int by = radix;
         int places = 1;
         while ((long) by * radix <= Integer.MAX_VALUE) {

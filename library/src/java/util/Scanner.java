@@ -464,6 +464,11 @@ public final class Scanner implements Iterator<String>, java.io.Closeable {
 
     public void close() {
         closed = true;
+        try {
+            in.close();
+        } catch (IOException e) {
+            ended = true;
+        }
     }
 
     public Scanner useLocale(Locale locale) {
