@@ -160,10 +160,15 @@ public class Lists {
             case 9: return q.removeFirstOccurrence(x) + " " + q.removeLastOccurrence(x);
             default: {
                 StringBuilder all = new StringBuilder();
-                for (Iterator<Integer> i = q.descendingIterator(); i.hasNext();) {
+                for (Iterator<Integer> i = d.coin() ? q.iterator() : q.descendingIterator(); i.hasNext();) {
                     all.append(i.next()).append(' ');
-                    if (d.below(6) == 0) {
-                        i.remove();
+                    switch (d.below(24)) {
+                        case 0: i.remove(); i.remove(); break;
+                        case 1: q.pollFirst(); break;
+                        case 2: q.pollLast(); break;
+                        case 3: q.addLast(3); break;
+                        case 4: case 5: case 6: case 7: i.remove(); break;
+                        default: break;
                     }
                 }
                 return all;

@@ -10,7 +10,7 @@ public class Numbers {
         int a = d.anInt();
         int b = d.anInt();
         switch (which) {
-            case 0: return Integer.toString(a) + " " + Integer.toString(a, 2 + d.below(35)) + " " + Integer.toHexString(a) + " "
+            case 0: return Integer.toString(a) + " " + Integer.toString(a, d.below(39)) + " " + Integer.toHexString(a) + " "
                 + Integer.toBinaryString(b);
             case 1: return Integer.toOctalString(a) + " " + Integer.bitCount(a) + " " + Integer.reverse(a) + " " + Integer.reverseBytes(a);
             case 2: return Integer.numberOfLeadingZeros(a) + " " + Integer.numberOfTrailingZeros(a) + " " + Integer.highestOneBit(a) + " "
@@ -38,7 +38,7 @@ public class Numbers {
         long a = d.aLong();
         long b = d.aLong();
         switch (which) {
-            case 0: return Long.toString(a) + " " + Long.toString(a, 2 + d.below(35)) + " " + Long.toHexString(a) + " "
+            case 0: return Long.toString(a) + " " + Long.toString(a, d.below(39)) + " " + Long.toHexString(a) + " "
                 + Long.toBinaryString(b);
             case 1: return Long.toOctalString(a) + " " + Long.bitCount(a) + " " + Long.reverse(a) + " " + Long.reverseBytes(a);
             case 2: return Long.numberOfLeadingZeros(a) + " " + Long.numberOfTrailingZeros(a) + " " + Long.highestOneBit(a) + " "
@@ -120,9 +120,10 @@ public class Numbers {
                 + a.bitCount() + " " + a.getLowestSetBit();
             case 8: return a.modPow(BigInteger.valueOf(n), b);
             case 9: return a.modInverse(b);
-            case 10: return a.toString(2 + d.below(35)) + " " + a.hashCode() + " " + a.intValue() + " " + a.longValue() + " " + a.signum();
+            case 10: return a.toString(d.below(39)) + " " + a.hashCode() + " " + a.intValue() + " " + a.longValue() + " " + a.signum();
             case 11: return a.pow(d.below(6)) + " " + a.negate() + " " + a.abs();
-            case 12: return a.intValueExact();
+            case 12: return (a.subtract(a) == BigInteger.ZERO) + " " + (a.mod(b) == BigInteger.ZERO) + " "
+                + (BigInteger.valueOf(n - 20) == BigInteger.valueOf(n - 20)) + " " + a.intValueExact();
             case 13: return a.longValueExact();
             case 14: return new BigInteger(a.toString(16), 16).equals(a) + " " + BigInteger.valueOf(d.anInt()).isProbablePrime(20);
             default: return BigInteger.valueOf(d.below(100000)).nextProbablePrime();

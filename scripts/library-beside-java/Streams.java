@@ -79,6 +79,16 @@ public class Streams {
         }
         all.append(in.read());
         in.close();
+        try {
+            out.append('z').flush();
+        } catch (IOException e) {
+            all.append(e.getMessage());
+        }
+        try {
+            all.append(in.ready()).append(in.readLine());
+        } catch (IOException e) {
+            all.append(e.getMessage());
+        }
         StringWriter w = new StringWriter();
         PrintWriter p = new PrintWriter(w, true);
         p.printf("%d-%s", d.below(99), text);
@@ -95,6 +105,11 @@ public class Streams {
         s.println(7);
         s.write(65);
         s.flush();
+        s.close();
+        s.println(text);
+        p.close();
+        p.print(8);
+        all.append(s.checkError()).append(p.checkError());
         all.append(w).append(w.getBuffer().length()).append(bytes.size()).append(bytes.toString("UTF-8").length());
         StringReader r = new StringReader(text);
         BufferedReader b = new BufferedReader(r);
