@@ -41,7 +41,7 @@ def stores_high(folder, scale, methods=50):
 
 
 def framed_stores(folder, scale, methods=65, kept=40):
-    """16,000 stores to 40 local variables in turn, with a frame of the map behind each, and a handler over all whose frame has all but the
+    """16,000 stores to 40 local variables in turn, with a frame of the map before each, and a handler over all whose frame has all but the
     first of them; in 65 methods 4 MB."""
     count = 16000
     store = b"".join(bytes([3, 54, k % kept]) for k in range(count))
@@ -50,7 +50,7 @@ def framed_stores(folder, scale, methods=65, kept=40):
 
     def add(made, name):
         items = [INT] * kept
-        handled = full(end - (end - 3), [TOP, *items[1:]], [object_of(made, "java/lang/Throwable")])
+        handled = full(3, [TOP, *items[1:]], [object_of(made, "java/lang/Throwable")])
         frames = full(1, items, []) + u1(2) * (count - 1) + handled
         table = u2(1) + u2(end) + u2(end + 1) + u2(made.named("java/lang/Error"))
         made.method(9, name, "()V", 1, kept, code, table, (count + 1, frames))
@@ -474,7 +474,8 @@ def fields_short(folder, scale):
 
 
 SHAPES = [
-    new_high, stores_high, framed_stores, locals_by_turns, long_by_interfaces, long_by_copies, long_by_many, handlers_begin_in_turn, refused_handlers_and_stores,
+    new_high, stores_high, framed_stores, locals_by_turns, long_by_interfaces, long_by_copies, long_by_many, handlers_begin_in_turn,
+    refused_handlers_and_stores,
     refused_handlers_in_turn, refused_start_in_turn, start_at_random, start_at_random_far, handlers_in_turn, handlers_alike, handlers_by_turns,
     arguments_many, names_many, names_below_chain, names_and_frames, methods_and_names, methods_at_powers, methods_short, texts_empty,
     texts_and_names, finals_of_empty, finals_of_same, finals_in_many, walked_plain, walked_found, params_tiny, classes_few, supers_all,
