@@ -40,16 +40,16 @@ fill_grows (s ∷ ss) ws zs n f e =
 -- word i of the block at an address stands at the address's position and i more
 pub record Stands (ss ws : List ℕ) (a i : ℕ) : Type 0 where
   pub above : 0 < a
-  pub inside : a - 1 + i < length ws
-  pub read : get_or ws (a - 1 + i) 0 ≡ get_or (words_at (cut ss ws) a) i 0
-  pub write : (w : ℕ) → cut ss (set ws (a - 1 + i) w) ≡ written (cut ss ws) a i w
+  pub inside : a + i - 1 < length ws
+  pub read : get_or ws (a + i - 1) 0 ≡ get_or (words_at (cut ss ws) a) i 0
+  pub write : (w : ℕ) → cut ss (set ws (a + i - 1) w) ≡ written (cut ss ws) a i w
 
 pub stands : (ss ws : List ℕ) (n a i : ℕ) → fill ss n ≡ true → i < length (words_at (cut ss ws) a) → Stands ss ws a i
 stands [] ws n a i f h = absurd (omega (arith, h))
 stands (s ∷ ss) ws n a i f h =
     let first : s ≡ 0 = eqb-true s 0 (left_of _ _ f) in
     let up : s < a = cut_above s ss ws n a i (right_of _ _ f) h in
-    let at = cut_at s ss ws n a i (a - 1 + i) (right_of _ _ f) (omega (arith, first, up)) h in
+    let at = cut_at s ss ws n a i (a + i - 1) (right_of _ _ f) (omega (arith, first, up)) h in
     record { above = omega (arith, up); inside = at.inside; read = at.read; write = at.write }
 
 -- the newest block

@@ -68,11 +68,11 @@ impl Store for Cells {
     }
 
     fn get(&self, address: u32, place: u32) -> u32 {
-        self.words[(address - 1) as usize + place as usize]
+        self.words[address as usize + place as usize - 1]
     }
 
     fn set(&mut self, address: u32, place: u32, word: u32) {
-        self.words[(address - 1) as usize + place as usize] = word;
+        self.words[address as usize + place as usize - 1] = word;
     }
 
     fn take_back(&mut self, address: u32, len: u32) {
