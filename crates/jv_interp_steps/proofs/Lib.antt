@@ -2,6 +2,7 @@ pub mod CodeRules
 pub mod Fewer
 pub mod Executed
 pub mod Refused
+pub mod Effects
 pub mod Runs
 pub mod Resumed
 pub mod Records

@@ -1,7 +1,7 @@
 -- Where all frames stand in records, and where the newest goes on in registers (JVMS 2.5.1, 2.11, 5.5).
 use Rattle.std.proofs.lemmas.Bool.{eqb-true}
 use Rattle.std.proofs.lemmas.List.{length-reverse}
-use Rattle.std.proofs.Common.{◌≡◌, ℕ, ◌+◌, ◌≤◌, ◌==◌, Bool, true, false, List, [], ◌∷◌, Ok, length, reverse, slice_get, refl, sym, ap, subst, ◌∙◌, arith}
+use Rattle.std.proofs.Common.{◌≡◌, ℕ, ◌+◌, ◌≤◌, ◌==◌, Bool, true, false, List, [], ◌∷◌, ◌++◌, Ok, length, reverse, slice_get, refl, sym, ap, subst, ◌∙◌, arith}
 use Rattle.jv_meaning_world.specs.World.{World}
 use Rattle.jv_meaning_machine.specs.Frames.{InitializationFrame, Frame}
 use Rattle.jv_meaning_machine.specs.Frames.Frame.{Runs, Initializes}
@@ -27,11 +27,12 @@ use Rattle.jv_interp_control.specs.FramesStand.{FramesStand}
 use Rattle.jv_interp_control.specs.Standing.{Kept, kept, Moves, StateStands, Reaches}
 use Rattle.jv_interp_control.specs.Suspending.{Suspending, CanSuspend, Suspends}
 use Rattle.jv_interp_control.specs.Running.{StateRuns}
+use Rattle.jv_interp_held.specs.Growing.{Grows}
 use Rattle.jv_interp_control.specs.Acting.{AreAsBefore}
 use Rattle.jv_interp_control.specs.Resuming.{Resuming, CanResume, Resumed, NoneRuns}
 use Rattle.jv_interp_control.specs.Initializing.{Initializing, IsAsBefore}
 use Rattle.jv_interp_steps.specs.Guests.{IsLoadableOnTop, TakesStep}
-use Rattle.jv_interp_steps.specs.Running.{RunsFrom, RunsIn}
+use Rattle.jv_interp_steps.specs.Running.{RunsFrom, RunsIn, RanOn}
 use Rattle.jv_interp_steps.proofs.Fewer.{cells_fall}
 
 -- ---- the method that runs comes to stand in its record
@@ -244,3 +245,21 @@ fewer keeps program texts s t addresses before after does stands r =
     let first = stands.memory.cells in
     let last = r.stands.memory.cells in
     omega (arith, less, first, last)
+
+-- so it is with one that ran so far
+pub ran_still :
+    (k : ℕ) (program : Program) (texts : List (List ℕ)) (s : State) (addresses : List ℕ) (before : Kept) (at at_after : Registers) (frames after : Frames)
+    (control : Control) (held held_after : Held) (blocks blocks_after : Blocks)
+    → RanOn k program texts s addresses at before (kept frames control held blocks) → at_after ≡ at → AreAsBefore frames after → held_after ≡ held
+    → blocks_after ≡ blocks → RanOn k program texts s addresses at_after before (kept after control held_after blocks_after)
+ran_still k program texts s addresses before at at_after frames after control held held_after blocks blocks_after r at_is a held_is blocks_are = record {
+  t = r.t;
+  does = r.does;
+  runs = record {
+    more = r.runs.more;
+    runs =
+        runs_again program texts r.t (addresses ++ r.runs.more) at at_after frames after control control held held_after blocks blocks_after r.runs.runs at_is a
+        refl held_is blocks_are;
+    grows = subst (λ (b : Blocks). Grows addresses r.runs.more before.blocks b) (sym blocks_are) r.runs.grows;
+  };
+}

@@ -13,7 +13,7 @@ use Rattle.jv_interp_control.specs.Standing.{Kept, StateStands, Reaches}
 use Rattle.jv_interp_control.specs.Running.{StateRuns}
 use Rattle.jv_interp_steps.specs.Guests.{TakesStep}
 use Rattle.jv_interp_steps.specs.Stepping.{StepsIn, RunsOn}
-use Rattle.jv_interp_steps.specs.Running.{Leads, IsSafe, RunsFrom, Ran, RunsIn, RanOn}
+use Rattle.jv_interp_steps.specs.Running.{Leads, IsSafe, RunsFrom, Ran, RunsIn, RanOn, RanOnTo}
 
 -- ---- the machine's steps
 
@@ -185,6 +185,21 @@ module _ (world : World) (verified : List Bool) (start : Registers) (program : P
     does = (r.t, r.does, some_frame r.t.frames r.runs.runs.running.frames_are, takes.does);
     reaches = runs_reach program texts r.t next addresses at before now after r.runs q;
   }
+
+  pub runs_in : RunsIn world verified at program texts r.t (addresses ++ r.runs.more) now
+  runs_in = record { guest = h.guest; safe = safe_now; runs = r.runs.runs }
+
+  -- and a number of steps more
+  pub ran_more :
+      (j : ℕ) (at_after : Registers) (after : Kept) → RanOnTo j world verified texts at now at_after after
+      → RanOn (k + j) program texts s addresses at_after before after
+  ran_more j at_after after more =
+      let q = more program r.t (addresses ++ r.runs.more) runs_in in
+      record {
+        t = q.t;
+        does = leads_on program k j s r.t q.t r.does q.does;
+        runs = runs_join program texts r.t q.t addresses at at_after before now after r.runs q.runs;
+      }
 
 -- ---- a guest that ran so far runs on
 

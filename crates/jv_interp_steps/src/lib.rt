@@ -4,6 +4,7 @@
 
 mod alone;
 mod decoding;
+mod going;
 mod instructions;
 mod opcodes;
 mod running;

@@ -1,13 +1,14 @@
 //! Steps one after the other, with the registers of the method that runs in a local variable.
 
-ghost use Rattle.std.specs.Prelude.{◌≡◌, ◌+◌, ◌-◌, ◌<◌, ◌≤◌, IsTrue, [], false};
+ghost use Rattle.std.specs.Prelude.{◌≡◌, ◌+◌, ◌-◌, ◌<◌, ◌≤◌, IsTrue, [], false, get_or};
 ghost use Rattle.jv_link_cache.specs.Linked.{IsLinked};
 ghost use Rattle.jv_interp_members.specs.Methods.{AreMethods};
 ghost use Rattle.jv_interp_objects.specs.Texts.{AreTexts};
 ghost use Rattle.jv_interp_control.specs.Standing.{kept};
-ghost use Rattle.jv_interp_steps.specs.Running.{CanRun, RanTo, CanRunIn, RanFrom};
+ghost use Rattle.jv_interp_steps.specs.Running.{CanRun, RanTo, CanRunIn, RanOnTo, RanFrom};
 
 use crate::alone::run_alone;
+use crate::going::step_going;
 use crate::stepping::step_in_method;
 use jv_interp_control::{Control, Frames, Program, initialization_step, resume, suspend};
 use jv_interp_held::{Held, steps_behind};
@@ -26,6 +27,56 @@ pub struct Turn {
     pub left: u64,
     /// Whether the host had no memory for the next one.
     pub refused: bool,
+}
+
+/// Takes at most so many steps of the method in the registers, while each of them only goes on there; answers how many are left, and writes
+/// one more than the opcode at hand where some are.
+#[inline(always)]
+fn run_going<'a, 'l, S: Store>(
+    classes: &Classes<'a>,
+    linked: &mut Linked<'a>,
+    methods: &Methods<'a>,
+    texts: &Texts<'a>,
+    verified: &[bool],
+    frames: &mut Frames,
+    control: &Control,
+    held: &mut Held,
+    store: &mut S,
+    at: &mut Registers<'l>,
+    n: u64,
+    rest: &mut u16,
+) -> u64
+    requires can { CanRunIn classes.now.world verified.now texts.now.names at.old
+        (kept frames.old control.now held.old (S.content store.old)) }
+    requires linked { IsLinked classes.now.world linked.old }
+    requires methods { AreMethods classes.now.world methods.now }
+    requires texts { AreTexts classes.now.world texts.now }
+    requires cells { held.old.cells ≤ S.room_left store.old }
+    requires few { held.old.cells < 2147483648 }
+    ensures ran { RanOnTo (n - result) classes.now.world verified.now texts.now.names at.old
+        (kept frames.old control.now held.old (S.content store.old)) at.new
+        (kept frames.new control.now held.new (S.content store.new)) }
+    ensures most { result ≤ n }
+    ensures rest { 0 < result → rest.new ≡ get_or at.new.code.now at.new.pc 0 + 1 }
+    ensures fewer { held.new.cells ≤ held.old.cells }
+    ensures room { S.room_left store.old + held.new.cells ≡ S.room_left store.new + held.old.cells }
+    ensures still_held { result ≡ n → held.new ≡ held.old }
+    ensures still_content { result ≡ n → S.content store.new ≡ S.content store.old }
+    ensures linked { IsLinked classes.now.world linked.new }
+{
+    let mut left = n;
+    while left > 0 {
+        left = run_alone(frames, at, left, rest);
+        if left > 0 {
+            if !step_going(
+                classes, linked, methods, texts, verified, frames, control, held, store, at, *rest,
+            ) {
+                return left;
+            }
+            left -= 1;
+        }
+    }
+    left
 }
 
 /// Takes at most so many steps, from that of the method in the registers on, through the methods that it calls and that it returns to,
@@ -68,7 +119,10 @@ fn run_method<'a, 'l, S: Store>(
     let mut left = n;
     let mut rest = 0;
     while left > 0 {
-        left = run_alone(frames, &mut now, left, &mut rest);
+        left = run_going(
+            classes, linked, methods, texts, verified, frames, control, held, store, &mut now,
+            left, &mut rest,
+        );
         if left > 0 {
             match step_in_method(
                 classes, linked, methods, texts, verified, frames, control, held, store, &mut now,

@@ -8,15 +8,14 @@ ghost use Rattle.jv_interp_control.specs.Standing.{kept};
 ghost use Rattle.jv_interp_control.specs.Acting.{AreAsBefore};
 ghost use Rattle.jv_interp_steps.specs.Stepping.{CanStepIn, SteppedIn};
 
-use crate::decoding::{count_behind, decode, index_behind, index_in_byte, opcode_at};
+use crate::decoding::{count_behind, decode, index_behind, opcode_at};
 use crate::instructions::{step_by, step_known};
-use crate::opcodes::{element_loaded, element_stored, value_returned};
-use jv_code::{DivisionOperator, FieldAccess, IndexForm, Insn, Invocation, NumberKind};
+use crate::opcodes::value_returned;
+use jv_code::{Insn, Invocation};
 use jv_interp_control::{Control, Frames};
 use jv_interp_held::Held;
 use jv_interp_instructions::{
-    AnyInstruction, Arrays, ConstantLoads, Divisions, FieldGets, FieldPuts, InterfaceCalls,
-    Objects, Returns, SpecialCalls, StaticCalls, VirtualCalls,
+    AnyInstruction, InterfaceCalls, Objects, Returns, SpecialCalls, StaticCalls, VirtualCalls,
 };
 use jv_interp_members::Methods;
 use jv_interp_objects::Texts;
@@ -162,40 +161,6 @@ fn step_at_hand<'a, 'l, S: Store>(
     ensures sure { IsTrue S.SURE → IsOk result }
 {
     let opcode = opcode_at(at.code, at.pc as usize, read);
-    if let Some(kind) = element_loaded(opcode) {
-        return step_known::<Arrays, S>(
-            classes,
-            linked,
-            methods,
-            texts,
-            verified,
-            frames,
-            control,
-            held,
-            store,
-            at,
-            Insn::ArrayLoad(kind),
-            1,
-            goes_on,
-        );
-    }
-    if let Some(kind) = element_stored(opcode) {
-        return step_known::<Arrays, S>(
-            classes,
-            linked,
-            methods,
-            texts,
-            verified,
-            frames,
-            control,
-            held,
-            store,
-            at,
-            Insn::ArrayStore(kind),
-            1,
-            goes_on,
-        );
-    }
     if let Some(kind) = value_returned(opcode) {
         return step_known::<Returns, S>(
             classes,
@@ -214,96 +179,6 @@ fn step_at_hand<'a, 'l, S: Store>(
         );
     }
     match opcode {
-        opcodes::AALOAD => step_known::<Arrays, S>(
-            classes,
-            linked,
-            methods,
-            texts,
-            verified,
-            frames,
-            control,
-            held,
-            store,
-            at,
-            Insn::ReferenceArrayLoad,
-            1,
-            goes_on,
-        ),
-        opcodes::AASTORE => step_known::<Objects, S>(
-            classes,
-            linked,
-            methods,
-            texts,
-            verified,
-            frames,
-            control,
-            held,
-            store,
-            at,
-            Insn::ReferenceArrayStore,
-            1,
-            goes_on,
-        ),
-        opcodes::IDIV => step_known::<Divisions, S>(
-            classes,
-            linked,
-            methods,
-            texts,
-            verified,
-            frames,
-            control,
-            held,
-            store,
-            at,
-            Insn::Division(NumberKind::Int, DivisionOperator::Divide),
-            1,
-            goes_on,
-        ),
-        opcodes::LDIV => step_known::<Divisions, S>(
-            classes,
-            linked,
-            methods,
-            texts,
-            verified,
-            frames,
-            control,
-            held,
-            store,
-            at,
-            Insn::Division(NumberKind::Long, DivisionOperator::Divide),
-            1,
-            goes_on,
-        ),
-        opcodes::IREM => step_known::<Divisions, S>(
-            classes,
-            linked,
-            methods,
-            texts,
-            verified,
-            frames,
-            control,
-            held,
-            store,
-            at,
-            Insn::Division(NumberKind::Int, DivisionOperator::Remainder),
-            1,
-            goes_on,
-        ),
-        opcodes::LREM => step_known::<Divisions, S>(
-            classes,
-            linked,
-            methods,
-            texts,
-            verified,
-            frames,
-            control,
-            held,
-            store,
-            at,
-            Insn::Division(NumberKind::Long, DivisionOperator::Remainder),
-            1,
-            goes_on,
-        ),
         opcodes::RETURN => step_known::<Returns, S>(
             classes,
             linked,
@@ -319,147 +194,6 @@ fn step_at_hand<'a, 'l, S: Store>(
             1,
             goes_on,
         ),
-        opcodes::ARRAYLENGTH => step_known::<Arrays, S>(
-            classes,
-            linked,
-            methods,
-            texts,
-            verified,
-            frames,
-            control,
-            held,
-            store,
-            at,
-            Insn::ArrayLength,
-            1,
-            goes_on,
-        ),
-        opcodes::LDC => {
-            let index = index_in_byte(at.code, at.pc as usize);
-            step_known::<ConstantLoads, S>(
-                classes,
-                linked,
-                methods,
-                texts,
-                verified,
-                frames,
-                control,
-                held,
-                store,
-                at,
-                Insn::PoolConstant(index, IndexForm::Byte),
-                2,
-                goes_on,
-            )
-        }
-        opcodes::LDC_W => {
-            let index = index_behind(at.code, at.pc as usize);
-            step_known::<ConstantLoads, S>(
-                classes,
-                linked,
-                methods,
-                texts,
-                verified,
-                frames,
-                control,
-                held,
-                store,
-                at,
-                Insn::PoolConstant(index, IndexForm::Half),
-                3,
-                goes_on,
-            )
-        }
-        opcodes::LDC2_W => {
-            let index = index_behind(at.code, at.pc as usize);
-            step_known::<ConstantLoads, S>(
-                classes,
-                linked,
-                methods,
-                texts,
-                verified,
-                frames,
-                control,
-                held,
-                store,
-                at,
-                Insn::PoolLongConstant(index),
-                3,
-                goes_on,
-            )
-        }
-        opcodes::GETSTATIC => {
-            let index = index_behind(at.code, at.pc as usize);
-            step_known::<FieldGets, S>(
-                classes,
-                linked,
-                methods,
-                texts,
-                verified,
-                frames,
-                control,
-                held,
-                store,
-                at,
-                Insn::Field(FieldAccess::GetStatic, index),
-                3,
-                goes_on,
-            )
-        }
-        opcodes::PUTSTATIC => {
-            let index = index_behind(at.code, at.pc as usize);
-            step_known::<FieldPuts, S>(
-                classes,
-                linked,
-                methods,
-                texts,
-                verified,
-                frames,
-                control,
-                held,
-                store,
-                at,
-                Insn::Field(FieldAccess::PutStatic, index),
-                3,
-                goes_on,
-            )
-        }
-        opcodes::GETFIELD => {
-            let index = index_behind(at.code, at.pc as usize);
-            step_known::<FieldGets, S>(
-                classes,
-                linked,
-                methods,
-                texts,
-                verified,
-                frames,
-                control,
-                held,
-                store,
-                at,
-                Insn::Field(FieldAccess::GetField, index),
-                3,
-                goes_on,
-            )
-        }
-        opcodes::PUTFIELD => {
-            let index = index_behind(at.code, at.pc as usize);
-            step_known::<FieldPuts, S>(
-                classes,
-                linked,
-                methods,
-                texts,
-                verified,
-                frames,
-                control,
-                held,
-                store,
-                at,
-                Insn::Field(FieldAccess::PutField, index),
-                3,
-                goes_on,
-            )
-        }
         opcodes::INVOKEVIRTUAL => {
             let index = index_behind(at.code, at.pc as usize);
             step_known::<VirtualCalls, S>(
@@ -547,42 +281,6 @@ fn step_at_hand<'a, 'l, S: Store>(
                 store,
                 at,
                 Insn::New(index),
-                3,
-                goes_on,
-            )
-        }
-        opcodes::CHECKCAST => {
-            let index = index_behind(at.code, at.pc as usize);
-            step_known::<Objects, S>(
-                classes,
-                linked,
-                methods,
-                texts,
-                verified,
-                frames,
-                control,
-                held,
-                store,
-                at,
-                Insn::CheckCast(index),
-                3,
-                goes_on,
-            )
-        }
-        opcodes::INSTANCEOF => {
-            let index = index_behind(at.code, at.pc as usize);
-            step_known::<Objects, S>(
-                classes,
-                linked,
-                methods,
-                texts,
-                verified,
-                frames,
-                control,
-                held,
-                store,
-                at,
-                Insn::InstanceOf(index),
                 3,
                 goes_on,
             )

@@ -1,8 +1,8 @@
-use Rattle.jv_code.specs.Opcodes.{array_load_opcode, array_store_opcode, return_opcode}
+use Rattle.jv_code.specs.Opcodes.{return_opcode}
 use Rattle.std.proofs.Common.{sym}
 use Rattle.jv_interp_words.proofs.OpcodesStand.{both_fit}
 use Rattle.jv_interp_steps.proofs.Known.{starts}
-use Rattle.jv_interp_steps.proofs.Operands.{with_index, with_byte, with_count, alone}
+use Rattle.jv_interp_steps.proofs.Operands.{with_index, with_count, alone}
 use Rattle.jv_interp_steps.proofs.stepping.step_at_hand.Goals as goal
 
 pub opcode_at-opcode-requires-clause-start : goal.opcode_at-opcode-requires-clause-start
@@ -13,86 +13,16 @@ opcode_at-opcode-requires-clause-start g c =
 
 pub step_known-requires-clause-bytes : goal.step_known-requires-clause-bytes
 step_known-requires-clause-bytes g c =
-    alone c.args.at.now.code.now c.args.at.now.pc c.opcode_at-opcode.result (array_load_opcode c.in-Some.kind) (c.in-Some.ensures {u = tt}) c.opcode_at-opcode.ensures.stands
-
-pub step_known-requires-in-Some-element_stored-clause-bytes : goal.step_known-requires-in-Some-element_stored-clause-bytes
-step_known-requires-in-Some-element_stored-clause-bytes g c =
-    alone c.args.at.now.code.now c.args.at.now.pc c.opcode_at-opcode.result (array_store_opcode c.in-Some-element_stored.kind)
-    (c.in-Some-element_stored.ensures {u = tt}) c.opcode_at-opcode.ensures.stands
-
-pub step_known-requires-in-Some-value_returned-clause-bytes : goal.step_known-requires-in-Some-value_returned-clause-bytes
-step_known-requires-in-Some-value_returned-clause-bytes g c =
-    alone c.args.at.now.code.now c.args.at.now.pc c.opcode_at-opcode.result (return_opcode c.in-Some-value_returned.kind) (c.in-Some-value_returned.ensures {u = tt}) c.opcode_at-opcode.ensures.stands
-
-pub step_known-requires-in-50-clause-bytes : goal.step_known-requires-in-50-clause-bytes
-step_known-requires-in-50-clause-bytes g c =
-    alone c.args.at.now.code.now c.args.at.now.pc c.opcode_at-opcode.result 50 (sym c.in-50.is) c.opcode_at-opcode.ensures.stands
-
-pub step_known-requires-in-83-clause-bytes : goal.step_known-requires-in-83-clause-bytes
-step_known-requires-in-83-clause-bytes g c =
-    alone c.args.at.now.code.now c.args.at.now.pc c.opcode_at-opcode.result 83 (sym c.in-83.is) c.opcode_at-opcode.ensures.stands
-
-pub step_known-requires-in-108-clause-bytes : goal.step_known-requires-in-108-clause-bytes
-step_known-requires-in-108-clause-bytes g c =
-    alone c.args.at.now.code.now c.args.at.now.pc c.opcode_at-opcode.result 108 (sym c.in-108.is) c.opcode_at-opcode.ensures.stands
-
-pub step_known-requires-in-109-clause-bytes : goal.step_known-requires-in-109-clause-bytes
-step_known-requires-in-109-clause-bytes g c =
-    alone c.args.at.now.code.now c.args.at.now.pc c.opcode_at-opcode.result 109 (sym c.in-109.is) c.opcode_at-opcode.ensures.stands
-
-pub step_known-requires-in-112-clause-bytes : goal.step_known-requires-in-112-clause-bytes
-step_known-requires-in-112-clause-bytes g c =
-    alone c.args.at.now.code.now c.args.at.now.pc c.opcode_at-opcode.result 112 (sym c.in-112.is) c.opcode_at-opcode.ensures.stands
-
-pub step_known-requires-in-113-clause-bytes : goal.step_known-requires-in-113-clause-bytes
-step_known-requires-in-113-clause-bytes g c =
-    alone c.args.at.now.code.now c.args.at.now.pc c.opcode_at-opcode.result 113 (sym c.in-113.is) c.opcode_at-opcode.ensures.stands
+    alone c.args.at.now.code.now c.args.at.now.pc c.opcode_at-opcode.result (return_opcode c.in-Some.kind) (c.in-Some.ensures {u = tt}) c.opcode_at-opcode.ensures.stands
 
 pub step_known-requires-in-177-clause-bytes : goal.step_known-requires-in-177-clause-bytes
 step_known-requires-in-177-clause-bytes g c =
     alone c.args.at.now.code.now c.args.at.now.pc c.opcode_at-opcode.result 177 (sym c.in-177.is) c.opcode_at-opcode.ensures.stands
 
-pub step_known-requires-in-190-clause-bytes : goal.step_known-requires-in-190-clause-bytes
-step_known-requires-in-190-clause-bytes g c =
-    alone c.args.at.now.code.now c.args.at.now.pc c.opcode_at-opcode.result 190 (sym c.in-190.is) c.opcode_at-opcode.ensures.stands
-
-pub step_known-requires-in-18-clause-bytes : goal.step_known-requires-in-18-clause-bytes
-step_known-requires-in-18-clause-bytes g c =
-    with_byte c.args.at.now.code.now c.args.at.now.pc c.opcode_at-opcode.result 18 c.index_in_byte-index.result (sym c.in-18.is) c.opcode_at-opcode.ensures.stands c.index_in_byte-index.ensures.stands
-
-pub step_known-requires-in-19-clause-bytes : goal.step_known-requires-in-19-clause-bytes
-step_known-requires-in-19-clause-bytes g c =
-    with_index c.args.at.now.code.now c.args.at.now.pc c.opcode_at-opcode.result 19 c.index_behind-index.result (sym c.in-19.is) c.opcode_at-opcode.ensures.stands c.index_behind-index.ensures.stands
-
-pub step_known-requires-in-20-clause-bytes : goal.step_known-requires-in-20-clause-bytes
-step_known-requires-in-20-clause-bytes g c =
-    with_index c.args.at.now.code.now c.args.at.now.pc c.opcode_at-opcode.result 20 c.index_behind-index-in-20.result (sym c.in-20.is)
-    c.opcode_at-opcode.ensures.stands c.index_behind-index-in-20.ensures.stands
-
-pub step_known-requires-in-178-clause-bytes : goal.step_known-requires-in-178-clause-bytes
-step_known-requires-in-178-clause-bytes g c =
-    with_index c.args.at.now.code.now c.args.at.now.pc c.opcode_at-opcode.result 178 c.index_behind-index-in-178.result (sym c.in-178.is)
-    c.opcode_at-opcode.ensures.stands c.index_behind-index-in-178.ensures.stands
-
-pub step_known-requires-in-179-clause-bytes : goal.step_known-requires-in-179-clause-bytes
-step_known-requires-in-179-clause-bytes g c =
-    with_index c.args.at.now.code.now c.args.at.now.pc c.opcode_at-opcode.result 179 c.index_behind-index-in-179.result (sym c.in-179.is)
-    c.opcode_at-opcode.ensures.stands c.index_behind-index-in-179.ensures.stands
-
-pub step_known-requires-in-180-clause-bytes : goal.step_known-requires-in-180-clause-bytes
-step_known-requires-in-180-clause-bytes g c =
-    with_index c.args.at.now.code.now c.args.at.now.pc c.opcode_at-opcode.result 180 c.index_behind-index-in-180.result (sym c.in-180.is)
-    c.opcode_at-opcode.ensures.stands c.index_behind-index-in-180.ensures.stands
-
-pub step_known-requires-in-181-clause-bytes : goal.step_known-requires-in-181-clause-bytes
-step_known-requires-in-181-clause-bytes g c =
-    with_index c.args.at.now.code.now c.args.at.now.pc c.opcode_at-opcode.result 181 c.index_behind-index-in-181.result (sym c.in-181.is)
-    c.opcode_at-opcode.ensures.stands c.index_behind-index-in-181.ensures.stands
-
 pub step_known-requires-in-182-clause-bytes : goal.step_known-requires-in-182-clause-bytes
 step_known-requires-in-182-clause-bytes g c =
-    with_index c.args.at.now.code.now c.args.at.now.pc c.opcode_at-opcode.result 182 c.index_behind-index-in-182.result (sym c.in-182.is)
-    c.opcode_at-opcode.ensures.stands c.index_behind-index-in-182.ensures.stands
+    with_index c.args.at.now.code.now c.args.at.now.pc c.opcode_at-opcode.result 182 c.index_behind-index.result (sym c.in-182.is)
+    c.opcode_at-opcode.ensures.stands c.index_behind-index.ensures.stands
 
 pub step_known-requires-in-183-clause-bytes : goal.step_known-requires-in-183-clause-bytes
 step_known-requires-in-183-clause-bytes g c =
@@ -120,13 +50,3 @@ pub step_known-requires-in-187-clause-bytes : goal.step_known-requires-in-187-cl
 step_known-requires-in-187-clause-bytes g c =
     with_index c.args.at.now.code.now c.args.at.now.pc c.opcode_at-opcode.result 187 c.index_behind-index-in-187.result (sym c.in-187.is)
     c.opcode_at-opcode.ensures.stands c.index_behind-index-in-187.ensures.stands
-
-pub step_known-requires-in-192-clause-bytes : goal.step_known-requires-in-192-clause-bytes
-step_known-requires-in-192-clause-bytes g c =
-    with_index c.args.at.now.code.now c.args.at.now.pc c.opcode_at-opcode.result 192 c.index_behind-index-in-192.result (sym c.in-192.is)
-    c.opcode_at-opcode.ensures.stands c.index_behind-index-in-192.ensures.stands
-
-pub step_known-requires-in-193-clause-bytes : goal.step_known-requires-in-193-clause-bytes
-step_known-requires-in-193-clause-bytes g c =
-    with_index c.args.at.now.code.now c.args.at.now.pc c.opcode_at-opcode.result 193 c.index_behind-index-in-193.result (sym c.in-193.is)
-    c.opcode_at-opcode.ensures.stands c.index_behind-index-in-193.ensures.stands
