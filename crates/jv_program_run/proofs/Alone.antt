@@ -54,7 +54,7 @@ module _ (one : ShowsOneThing) where
     fed = played.fed;
   }
 
-  shown_alone : (n turns : ℕ) (a : Admission) (o : Observed) (g : GuestFiles) (b : Budget) (feeds : List Feed) → a.guest ≡ g → a.budget ≡ b → a.feeds ≡ feeds
+  pub shown_alone : (n turns : ℕ) (a : Admission) (o : Observed) (g : GuestFiles) (b : Budget) (feeds : List Feed) → a.guest ≡ g → a.budget ≡ b → a.feeds ≡ feeds
       → HasPlayed n turns a → Shows a.guest a.budget a.feeds a.steps o → IsRunAlone g b feeds n turns o
   shown_alone n turns a o g b feeds guest budget fed played shown =
       subst (λ (x : GuestFiles). IsRunAlone x b feeds n turns o) guest

@@ -1,25 +1,20 @@
 -- Rounds of turns, before each of which a guest is fed what is read.
-use Rattle.std.proofs.Common.{◌≡◌, ℕ, suc, ◌+◌, ◌-◌, ◌*◌, ◌<◌, ◌≤◌, ◌^◌, Bool, true, false, cond, List, ◌++◌, length, Option, Some, None, refl, sym, ap, subst, ◌∙◌, inl, inr, arith}
+use Rattle.std.proofs.Common.{◌≡◌, ℕ, suc, ◌+◌, ◌-◌, ◌*◌, ◌<◌, ◌≤◌, ◌^◌, Bool, true, false, cond, List, length, Option, Some, None, refl, sym, ap, subst, ◌∙◌, inl, inr, arith}
 use Rattle.std.specs.Prelude.{IsSome, slice_get}
 use Rattle.std.specs.Io.KnownBytes.{Consumes}
-use Rattle.std.proofs.KnownBytes.{Consumes-trans}
 use Rattle.std.proofs.lemmas.Bool.{cases_lt, le-ltb}
-use Rattle.std.proofs.lemmas.List.{length-append}
-use Rattle.jv_meaning_machine.specs.Alone.{GuestFiles}
 use Rattle.jv_meaning_machine.specs.Laws.Shown.{ShowsOneThing}
 use Rattle.jv_meaning_machine.specs.Laws.Feeds.{FeedShowsLater}
 use Rattle.jv_limits.specs.declared.fault.FeedFault.TheVariants as faults
-use Rattle.jv_host.specs.Host.{Admission, fed_bytes, input_bytes}
+use Rattle.jv_host.specs.Host.{Admission, input_bytes}
 use Rattle.jv_host.specs.Calls.{IsRun, NoneRuns, SomeRuns}
 use Rattle.jv_host.specs.Limits.{feed_refusal, feed_refusal_of}
 use Rattle.jv_program_base.specs.declared.failure.Failure.{Failure}
 use Rattle.jv_program_base.specs.declared.failure.Failure.TheVariants.{Unreadable, StandardInput, LibraryRefused, Refused, FeedTooLong, TooManyFolders, NoGuest, HostMemory, OutOfMemory}
-use Rattle.jv_program_run.specs.Feeding.{IsTooLong, bytes_of_feeds}
 use Rattle.jv_program_run.specs.Inside.Turns.{AreAtStart, IsFedNext, IsFedRun, IsFeedFailure, IsNextFailure, OnlyFed, PlayedSince, ReadSoFar, SomeWent}
 use Rattle.jv_program_run.proofs.AllTurns.{feed_all, only_at_start, only_fed, only_once, run_once, start_all}
 use Rattle.jv_program_run.proofs.Needed.{is_round, some_run, some_went, went_on}
-use Rattle.jv_program_base.proofs.Places.{some_same}
-use Rattle.jv_program_run.proofs.WhatWasRead.{count_of_bytes, read_at_start, read_next, read_none, read_once}
+use Rattle.jv_program_run.proofs.WhatWasRead.{read_at_start, read_next, read_none, read_once}
 
 -- so many turns, and what was read before so many rounds
 pub record FedSoFar (n turns reads id : ℕ) (old mid : List Admission) (before now : Option (List ℕ)) (more : Bool) : Type 0 where
@@ -86,7 +81,7 @@ fed_over n most r id old now b0 b1 more lt h none = record {
 
 -- ---- what can't be fed
 
-too_many : (a : Admission) (count : ℕ) → feed_refusal_of (Some a) count ≡ Some faults.InputTooLong → 16777216 < input_bytes a + count
+pub too_many : (a : Admission) (count : ℕ) → feed_refusal_of (Some a) count ≡ Some faults.InputTooLong → 16777216 < input_bytes a + count
 too_many a count refused =
     elim (cases_lt 16777216 (input_bytes a + count)) [
       | inl more ↦ more
@@ -96,31 +91,28 @@ too_many a count refused =
           absurd cc
     ]
 
-module _ (n r id : ℕ) (old mid : List Admission) (b0 b1 b2 : Option (List ℕ)) (more : Bool) (there : IsSome (slice_get old id)) (before : FedSoFar n r r id old mid b0 b1 more) where
-  fed_too_long : (bytes : List ℕ) → Consumes b1 b2 bytes → feed_refusal mid id bytes ≡ Some faults.InputTooLong → IsFeedFailure id old b0 b2 FeedTooLong
-  fed_too_long bytes read refused =
-      let it = there_is (slice_get old id) there in
-      let a = before.read.a in
-      let feeds = a.feeds in
-      let now = before.played.each id it.0 it.1 in
-      let same : now.0 ≡ a = some_same now.0 a (sym now.1 ∙ before.read.found) in
-      let guest : a.guest ≡ it.0.guest = sym (ap (λ (x : Admission). x.guest) same) ∙ now.2.guest in
-      let here : feed_refusal_of (Some a) (length bytes) ≡ Some faults.InputTooLong =
-      subst (λ (o : Option Admission). feed_refusal_of o (length bytes) ≡ Some faults.InputTooLong) before.read.found refused in
-      let many : 16777216 < input_bytes a + length bytes = too_many a (length bytes) here in
-      let all : length (bytes_of_feeds feeds ++ bytes) ≡ length (bytes_of_feeds feeds) + length bytes = length-append (bytes_of_feeds feeds) bytes in
-      let count : length (bytes_of_feeds feeds) ≡ fed_bytes feeds = count_of_bytes feeds in
-      let long : IsTooLong a.guest b0 b2 =
-      record {
-        bytes = bytes_of_feeds feeds ++ bytes;
-        read = Consumes-trans b0 b1 b2 (bytes_of_feeds feeds) bytes before.read.bytes read;
-        more = omega (arith, many, all, count);
-      } in
-      (it.0, it.1, subst (λ (g : GuestFiles). IsTooLong g b0 b2) guest long)
+module _ (n most r id : ℕ) (old mid : List Admission) (b0 b1 b2 : Option (List ℕ)) (more : Bool) (is_more : more ≡ true) (less : r < most) (runs : SomeRuns mid)
+    (before : FedSoFar n r r id old mid b0 b1 more) where
+  fed_too_much : (bytes : List ℕ) → length bytes ≤ 4096 → Consumes b1 b2 bytes → feed_refusal mid id bytes ≡ Some faults.InputTooLong
+      → IsFeedFailure n most id old b0 b2 FeedTooLong
+  fed_too_much bytes few read refused = record {
+    rounds = r;
+    few = less;
+    host = mid;
+    played = before.played;
+    only = before.only;
+    between = b1;
+    read = subst (λ (b : Bool). ReadSoFar id r mid b0 b1 b) is_more before.read;
+    runs = runs;
+    last = bytes;
+    piece = few;
+    came = read;
+    refused = refused;
+  }
 
-  pub not_fed : (failure : Failure) → IsNextFailure id mid b1 b2 failure → IsFeedFailure id old b0 b2 failure
+  pub not_fed : (failure : Failure) → IsNextFailure id mid b1 b2 failure → IsFeedFailure n most id old b0 b2 failure
   not_fed StandardInput h = tt
-  not_fed FeedTooLong h = fed_too_long h.0 h.1 h.2
+  not_fed FeedTooLong h = fed_too_much h.0 h.1 h.2 h.3
   not_fed HostMemory h = tt
   not_fed (Unreadable name) h = absurd h
   not_fed (LibraryRefused name reason) h = absurd h

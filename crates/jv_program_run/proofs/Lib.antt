@@ -7,6 +7,7 @@ pub mod Needed
 pub mod NotRun
 pub mod Plain
 pub mod Played
+pub mod Overfed
 pub mod Ran
 pub mod Read
 pub mod ReadBehind

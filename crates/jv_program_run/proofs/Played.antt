@@ -5,7 +5,7 @@ use Rattle.std.specs.Io.KnownBytes.{IsAtEnd}
 use Rattle.std.proofs.lemmas.Bool.{cases_lt, eq-eqb, lt-ltb, ne_eqb}
 use Rattle.std.proofs.lemmas.List.{length-map}
 use Rattle.jv_meaning_machine.specs.Start.{Budget}
-use Rattle.jv_meaning_machine.specs.Alone.{GuestFiles}
+use Rattle.jv_meaning_machine.specs.Alone.{Feed}
 use Rattle.jv_host.specs.Started.{budget_of}
 use Rattle.jv_host.specs.Host.{Admission, input_bytes}
 use Rattle.jv_host.specs.Calls.{NoneRuns}
@@ -13,11 +13,11 @@ use Rattle.jv_host.proofs.Places.{same_or_other}
 use Rattle.jv_program_base.specs.declared.failure.Failure.{Failure}
 use Rattle.jv_program_base.specs.declared.failure.Failure.TheVariants.{Unreadable, StandardInput, LibraryRefused, Refused, FeedTooLong, TooManyFolders, NoGuest, HostMemory, OutOfMemory}
 use Rattle.jv_program_run.specs.declared.settings.RunSettings.{RunSettings}
-use Rattle.jv_program_run.specs.Feeding.{AreFeedsFrom, IsTooLong, feeds_to, is_no_guest}
+use Rattle.jv_program_run.specs.Feeding.{AreFeedsFrom, feeds_to, is_no_guest}
 use Rattle.jv_program_run.specs.Guests.{NamedGuest}
 use Rattle.jv_program_run.specs.Outcome.{AreAllowed, IsFeedingFailure, IsFirstWithin, IsGuestsFailure}
 use Rattle.jv_program_run.specs.Inside.Play.{HasRun, IsAdmitFailure, at_start}
-use Rattle.jv_program_run.specs.Inside.Turns.{AreAtStart, IsFedRun, IsFeedFailure, NoneFed, PlayedSince, ReadSoFar, SomeWent}
+use Rattle.jv_program_run.specs.Inside.Turns.{AreAtStart, IsFedRun, NoneFed, OnlyFed, PlayedSince, ReadSoFar, SomeWent}
 use Rattle.jv_program_base.proofs.Places.{some_same, within}
 
 -- an item of a list that is made of another
@@ -26,7 +26,7 @@ from_map f [] k y e = absurd cc
 from_map f (x ∷ xs) zero y e = (x, refl, sym (some_same (f x) y e))
 from_map f (x ∷ xs) (suc k) y e = from_map f xs k y e
 
-some_there : {A : Type 0} (xs : List A) (k : ℕ) → k < length xs → IsSome (slice_get xs k)
+pub some_there : {A : Type 0} (xs : List A) (k : ℕ) → k < length xs → IsSome (slice_get xs k)
 some_there [] k lt = absurd (omega (arith, lt))
 some_there (x ∷ xs) zero lt = refl
 some_there (x ∷ xs) (suc k) lt = some_there xs k (omega (arith, lt))
@@ -52,7 +52,7 @@ pub one_of : (stdin : Option ℕ) (number count : ℕ) → stdin ≡ Some number
 one_of stdin number count is there = not_none number count (subst (λ (o : Option ℕ). is_no_guest o count ≡ false) is there)
 
 module _ (b : Budget) (guests : List NamedGuest) (host : List Admission) (started : host ≡ map (at_start b) guests) where
-  in_guests : (place : ℕ) (a : Admission) → slice_get host place ≡ Some a → (named : NamedGuest) × (slice_get guests place ≡ Some named) × (a ≡ at_start b named)
+  pub in_guests : (place : ℕ) (a : Admission) → slice_get host place ≡ Some a → (named : NamedGuest) × (slice_get guests place ≡ Some named) × (a ≡ at_start b named)
   in_guests place a found = from_map (at_start b) guests place a (ap (λ (l : List Admission). slice_get l place) (sym started) ∙ found)
 
   pub all_at_start : AreAtStart host
@@ -68,27 +68,6 @@ module _ (b : Budget) (guests : List NamedGuest) (host : List Admission) (starte
       let most = it.1 in
       let all : length host ≡ length guests = ap length started ∙ length-map guests (at_start b) in
       some_there host (number - 1) (omega (arith, least, most, all, same))
-
-  -- what can't be fed to a guest of the host can't be fed to that guest
-  pub feeding_failed : (stdin : Option ℕ) (number : ℕ) (b0 b1 : Option (List ℕ)) (failure : Failure) → stdin ≡ Some number → IsFeedFailure (number - 1) host b0 b1 failure
-      → IsFeedingFailure stdin guests b0 b1 failure
-  feeding_failed None number b0 b1 failure is h = absurd cc
-  feeding_failed (Some other) number b0 b1 StandardInput is h = λ e. cc
-  feeding_failed (Some other) number b0 b1 FeedTooLong is h =
-      let it = in_guests (number - 1) h.0 h.1 in
-      let same : number ≡ other = some_same number other (sym is) in
-      let guest : h.0.guest ≡ it.0.guest = ap (λ (x : Admission). x.guest) it.2 in (
-        it.0,
-        subst (λ (k : ℕ). slice_get guests (k - 1) ≡ Some it.0) same it.1,
-        subst (λ (g : GuestFiles). IsTooLong g b0 b1) guest h.2,
-      )
-  feeding_failed (Some other) number b0 b1 HostMemory is h = λ e. cc
-  feeding_failed (Some other) number b0 b1 (Unreadable name) is h = absurd h
-  feeding_failed (Some other) number b0 b1 (LibraryRefused name reason) is h = absurd h
-  feeding_failed (Some other) number b0 b1 (Refused fault) is h = absurd h
-  feeding_failed (Some other) number b0 b1 TooManyFolders is h = absurd h
-  feeding_failed (Some other) number b0 b1 NoGuest is h = absurd h
-  feeding_failed (Some other) number b0 b1 OutOfMemory is h = absurd h
 
 -- ---- no guest is fed
 
@@ -111,9 +90,25 @@ unfed_run s guests old new before m none started most played unfed full needed =
 
 -- ---- one is
 
-read_to_end : (id m : ℕ) (host : List Admission) (b0 b1 : Option (List ℕ)) (more : Bool) (read : ReadSoFar id m host b0 b1 more) → length read.a.feeds < m → IsAtEnd b1
+pub read_to_end : (id m : ℕ) (host : List Admission) (b0 b1 : Option (List ℕ)) (more : Bool) (read : ReadSoFar id m host b0 b1 more) → length read.a.feeds < m → IsAtEnd b1
 read_to_end id m host b0 b1 true read lt = let all : length read.a.feeds ≡ m = read.each refl in absurd (omega (arith, all, lt))
 read_to_end id m host b0 b1 false read lt = read.end refl
+
+-- what came to each guest where none but one was fed
+pub feeds_there :
+    (stdin : Option ℕ) (number : ℕ) (host : List Admission) (fed : Admission) → stdin ≡ Some number → 1 ≤ number → slice_get host (number - 1) ≡ Some fed
+    → OnlyFed (number - 1) host → (place : ℕ) (a : Admission) → slice_get host place ≡ Some a → a.feeds ≡ feeds_to stdin fed.feeds place
+feeds_there stdin number host fed some least there only place a found =
+    subst (λ (o : Option ℕ). a.feeds ≡ feeds_to o fed.feeds place) (sym some)
+    (elim (same_or_other number (place + 1)) [
+      | inl same ↦
+          let here : number - 1 ≡ place = omega (arith, same) in
+          let it : fed ≡ a = some_same fed a (sym (subst (λ (k : ℕ). slice_get host k ≡ Some fed) here there) ∙ found) in
+          ap (λ (x : Admission). x.feeds) (sym it) ∙ sym (ap (λ (b : Bool). cond b fed.feeds []) (eq-eqb number (place + 1) same))
+      | inr other ↦
+          let beside : place ≢ number - 1 = λ e. other (omega (arith, e, least)) in
+          only place a found beside ∙ sym (ap (λ (b : Bool). cond b fed.feeds []) (ne_eqb number (place + 1) other))
+    ])
 
 pub fed_run : (s : RunSettings) (guests : List NamedGuest) (old new : List Admission) (b0 b1 : Option (List ℕ)) (m number : ℕ) → s.stdin ≡ Some number → 1 ≤ number
     → old ≡ map (at_start (budget_of s.budget)) guests → IsFedRun s.quantum s.rounds (number - 1) old new b0 b1 m → HasRun s guests b0 b1 new
@@ -129,17 +124,7 @@ fed_run s guests old new b0 b1 m number some least started run =
       feeds = feeds;
       input = subst (λ (o : Option ℕ). AreFeedsFrom o m feeds b0 b1) (sym some)
           (record { few = read.few; pieces = read.pieces; bytes = read.bytes; end = read_to_end (number - 1) m new b0 b1 run.more read; unread = read.unread });
-      fed = λ place a found.
-          subst (λ (o : Option ℕ). a.feeds ≡ feeds_to o feeds place) (sym some)
-          (elim (same_or_other number (place + 1)) [
-            | inl same ↦
-                let here : number - 1 ≡ place = omega (arith, same) in
-                let it : read.a ≡ a = some_same read.a a (sym (subst (λ (k : ℕ). slice_get new k ≡ Some read.a) here read.found) ∙ found) in
-                ap (λ (x : Admission). x.feeds) (sym it) ∙ sym (ap (λ (b : Bool). cond b feeds []) (eq-eqb number (place + 1) same))
-            | inr other ↦
-                let beside : place ≢ number - 1 = λ e. other (omega (arith, e, least)) in
-                run.only place a found beside ∙ sym (ap (λ (b : Bool). cond b feeds []) (ne_eqb number (place + 1) other))
-          ]);
+      fed = feeds_there s.stdin number new read.a some least read.found run.only;
       fits = λ place a found some.
           elim (same_or_other number (place + 1)) [
             | inl same ↦
@@ -156,10 +141,16 @@ fed_run s guests old new b0 b1 m number some least started run =
 
 -- ---- why there is no report
 
+-- where none is fed nothing was read
+pub unfed_unread : (fed : Option ℕ) (rounds : ℕ) (feeds : List Feed) (before after : Option (List ℕ)) → fed ≡ None
+    → AreFeedsFrom fed rounds feeds before after → after ≡ before
+unfed_unread None rounds feeds before after none read = read.1
+unfed_unread (Some number) rounds feeds before after none read = absurd cc
+
 module _ (s : RunSettings) (guests : List NamedGuest) (b0 : Option (List ℕ)) where
   pub not_admitted : (failure : Failure) → IsAdmitFailure (budget_of s.budget) guests failure → IsGuestsFailure s guests b0 b0 failure
   not_admitted (Refused fault) h = (h, refl)
-  not_admitted HostMemory h = h
+  not_admitted HostMemory h = (h, λ _. refl)
   not_admitted StandardInput h = absurd h
   not_admitted FeedTooLong h = absurd h
   not_admitted (Unreadable name) h = absurd h
@@ -172,11 +163,11 @@ module _ (s : RunSettings) (guests : List NamedGuest) (b0 b1 : Option (List ℕ)
   first_allowed : AreAllowed (budget_of s.budget) guests (length guests) → IsFirstWithin (budget_of s.budget) guests
   first_allowed all named found = (all 0 named (within guests 0 named found) found).0
 
-  pub not_played : (failure : Failure) → AreAllowed (budget_of s.budget) guests (length guests) → IsFeedingFailure s.stdin guests b0 b1 failure
+  pub not_played : (failure : Failure) → AreAllowed (budget_of s.budget) guests (length guests) → IsFeedingFailure s guests b0 b1 failure
       → IsGuestsFailure s guests b0 b1 failure
   not_played StandardInput all h = (all, h)
   not_played FeedTooLong all h = (all, h)
-  not_played HostMemory all h = first_allowed all
+  not_played HostMemory all h = (first_allowed all, λ none. absurd (h none))
   not_played (Unreadable name) all h = absurd h
   not_played (LibraryRefused name reason) all h = absurd h
   not_played (Refused fault) all h = absurd h
@@ -185,6 +176,6 @@ module _ (s : RunSettings) (guests : List NamedGuest) (b0 b1 : Option (List ℕ)
   not_played OutOfMemory all h = absurd h
 
   pub failed_later : {T : Type 0} (result : Result T Failure) → AreAllowed (budget_of s.budget) guests (length guests)
-      → IfErr result (IsFeedingFailure s.stdin guests b0 b1) → IfErr result (IsGuestsFailure s guests b0 b1)
+      → IfErr result (IsFeedingFailure s guests b0 b1) → IfErr result (IsGuestsFailure s guests b0 b1)
   failed_later (Ok t) all h = tt
   failed_later (Err failure) all h = not_played failure all h

@@ -58,11 +58,3 @@ abbrev pub CameInTime : GuestFiles → Budget → (quantum : ℕ) → List Feed 
 CameInTime g b quantum feeds =
     (round : ℕ) (feed : Feed) → slice_get feeds round ≡ Some feed
     → (feed.own_step ≤ quantum * round) × (feed.own_step < quantum * round → IsOverAlone g b feeds feed.own_step)
-
--- ---- what can't be fed
-
--- with all that was read there would be more than 16,777,216 bytes of input for a guest
-pub record IsTooLong (g : GuestFiles) (before after : Option (List ℕ)) : Type 0 where
-  pub bytes : List ℕ
-  pub read : Consumes before after bytes
-  pub more : 16777216 < length g.input + length bytes

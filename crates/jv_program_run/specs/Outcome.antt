@@ -1,5 +1,6 @@
 -- What the program says of the guests of folders (own).
 use Rattle.std.specs.Prelude.{◌≡◌, ◌≢◌, ⊤, Bool, ◌||◌, IsTrue, Option, Some, None, ℕ, zero, suc, ◌+◌, ◌-◌, ◌*◌, ◌<◌, ◌≤◌, List, [], length, slice_get, string_bytes}
+use Rattle.std.specs.Io.KnownBytes.{Consumes}
 use Rattle.jv_meaning_machine.specs.State.End.{Running}
 use Rattle.jv_meaning_machine.specs.Start.{Budget}
 use Rattle.jv_meaning_machine.specs.Alone.{GuestFiles, Feed}
@@ -13,7 +14,7 @@ use Rattle.jv_program_base.specs.declared.failure.Failure.TheVariants.{Unreadabl
 use Rattle.jv_program_base.specs.declared.outcome.Outcome.{Outcome}
 use Rattle.jv_program_base.specs.Outcome.{raw_bytes}
 use Rattle.jv_program_run.specs.declared.settings.RunSettings.{RunSettings}
-use Rattle.jv_program_run.specs.Feeding.{AreFeedsFrom, CameInTime, IsRunningAlone, IsTooLong, bytes_of_feeds, feeds_to}
+use Rattle.jv_program_run.specs.Feeding.{AreFeedsFrom, AreRead, CameInTime, IsRunningAlone, bytes_of_feeds, feeds_to}
 use Rattle.jv_program_run.specs.Guests.{NamedGuest}
 use Rattle.jv_program_run.specs.Instruction.{IsInstructionOfThrow}
 use Rattle.jv_program_run.specs.Json.{run_report}
@@ -93,30 +94,50 @@ pub record IsRefusedAmong (b : Budget) (guests : List NamedGuest) (fault : Admit
   pub first : IsRefused named.guest b place fault
   pub why : fault ≢ refusals.HostMemory
 
--- more came for the guest that is fed than it may have
-abbrev pub IsOverfed : Option ℕ → List NamedGuest → (before after : Option (List ℕ)) → Type 0
-IsOverfed None guests before after = ⊥
-IsOverfed (Some number) guests before after =
-    (named : NamedGuest) × (slice_get guests (number - 1) ≡ Some named) × IsTooLong named.guest before after
+-- after so many turns, fed so, some guest still takes steps
+abbrev pub IsOneRunning : RunSettings → List NamedGuest → List Feed → (rounds : ℕ) → Type 0
+IsOneRunning s guests feeds rounds =
+    (place : ℕ) × (named : NamedGuest) × (slice_get guests place ≡ Some named) × (o : Observed)
+    × IsRunAlone named.guest (budget_of s.budget) (feeds_to s.stdin feeds place) s.quantum rounds o × (o.end ≡ Running)
+
+-- More came for the guest that is fed than it may have: guests had some rounds, before each of which a piece was read for it, and before
+-- one more, as some guest still took steps, a piece with which it would have more than 16,777,216 bytes of input.
+pub record IsOverfed (s : RunSettings) (guests : List NamedGuest) (before after : Option (List ℕ)) : Type 0 where
+  pub number : ℕ
+  pub is_fed : s.stdin ≡ Some number
+  pub named : NamedGuest
+  pub found : slice_get guests (number - 1) ≡ Some named
+  pub rounds : ℕ
+  pub few : rounds < s.rounds
+  pub feeds : List Feed
+  pub between : Option (List ℕ)
+  pub read : AreRead rounds feeds before between
+  pub running : IsOneRunning s guests feeds rounds
+  pub last : List ℕ
+  pub piece : length last ≤ 4096
+  pub came : Consumes between after last
+  pub more : 16777216 < length named.guest.input + length (bytes_of_feeds feeds) + length last
 
 -- Why the guests' turns ended early: nothing could be read for the one that is fed, or what was read is more than it may have, or the host
 -- had no memory for it.
-abbrev pub IsFeedingFailure : Option ℕ → List NamedGuest → (before after : Option (List ℕ)) → Failure → Type 0
-IsFeedingFailure stdin guests before after StandardInput = stdin ≢ None
-IsFeedingFailure stdin guests before after FeedTooLong = IsOverfed stdin guests before after
-IsFeedingFailure stdin guests before after HostMemory = stdin ≢ None
-IsFeedingFailure stdin guests before after failure = ⊥
+abbrev pub IsFeedingFailure : RunSettings → List NamedGuest → (before after : Option (List ℕ)) → Failure → Type 0
+IsFeedingFailure s guests before after StandardInput = s.stdin ≢ None
+IsFeedingFailure s guests before after FeedTooLong = IsOverfed s guests before after
+IsFeedingFailure s guests before after HostMemory = s.stdin ≢ None
+IsFeedingFailure s guests before after failure = ⊥
 
 -- Why there is no report on guests: the host refused one, before anything was read; or, with all of them admitted, what was read for one
 -- was too long, or nothing could be read; or the host had no memory, where the first of them is within its limits; or the program had none.
+-- Where none is fed nothing was read.
 abbrev pub IsGuestsFailure : RunSettings → List NamedGuest → (before after : Option (List ℕ)) → Failure → Type 0
 IsGuestsFailure s guests before after (Unreadable name) = ⊥
 IsGuestsFailure s guests before after (LibraryRefused name reason) = ⊥
 IsGuestsFailure s guests before after StandardInput = AreAllowed (budget_of s.budget) guests (length guests) × (s.stdin ≢ None)
 IsGuestsFailure s guests before after (Refused fault) = IsRefusedAmong (budget_of s.budget) guests fault × (after ≡ before)
 IsGuestsFailure s guests before after FeedTooLong =
-    AreAllowed (budget_of s.budget) guests (length guests) × IsOverfed s.stdin guests before after
+    AreAllowed (budget_of s.budget) guests (length guests) × IsOverfed s guests before after
 IsGuestsFailure s guests before after TooManyFolders = ⊥
 IsGuestsFailure s guests before after NoGuest = ⊥
-IsGuestsFailure s guests before after HostMemory = IsFirstWithin (budget_of s.budget) guests
-IsGuestsFailure s guests before after OutOfMemory = ⊤
+IsGuestsFailure s guests before after HostMemory =
+    IsFirstWithin (budget_of s.budget) guests × (s.stdin ≡ None → after ≡ before)
+IsGuestsFailure s guests before after OutOfMemory = s.stdin ≡ None → after ≡ before

@@ -54,7 +54,8 @@ pub(crate) fn run_fed<I: Read, W: Watch>(
     requires start { AreAtStart host.old }
     ensures ok { IfOk result (IsFedRun settings.quantum settings.rounds id.0 host.old host.new
         (I.remaining input.old) (I.remaining input.new)) }
-    ensures err { IfErr result (IsFeedFailure id.0 host.old (I.remaining input.old) (I.remaining input.new)) }
+    ensures err { IfErr result (IsFeedFailure settings.quantum settings.rounds id.0 host.old
+        (I.remaining input.old) (I.remaining input.new)) }
 {
     shows_one_thing();
     feed_shows_later();

@@ -66,8 +66,9 @@ fn run_all<I: Read, W: Watch>(
     ensures ok { OnOk result
         (HasRun settings (map named_guest_of guests.now) (I.remaining input.old) (I.remaining input.new) host.new) }
     ensures err { IfErr result
-        (IsFeedingFailure settings.stdin (map named_guest_of guests.now) (I.remaining input.old) (I.remaining input.new)) }
+        (IsFeedingFailure settings (map named_guest_of guests.now) (I.remaining input.old) (I.remaining input.new)) }
 {
+    shows_one_thing();
     let Some(number) = settings.stdin else {
         let _rounds = run_unfed(host, settings, watch);
         return Ok(());

@@ -1,14 +1,14 @@
 -- Turns of guests, and what is fed to one of them in between.
-use Rattle.std.specs.Prelude.{◌≡◌, ◌≢◌, ℕ, zero, suc, ◌*◌, ◌<◌, ◌≤◌, ⊤, Bool, false, IsTrue, List, [], All, Option, Some, None, length, slice_get}
+use Rattle.std.specs.Prelude.{◌≡◌, ◌≢◌, ℕ, zero, suc, ◌*◌, ◌<◌, ◌≤◌, ⊤, Bool, true, false, IsTrue, List, [], All, Option, Some, None, length, slice_get}
 use Rattle.std.specs.Io.KnownBytes.{Consumes, IsAtEnd}
 use Rattle.jv_meaning_machine.specs.Alone.{Feed}
 use Rattle.jv_limits.specs.declared.fault.FeedFault.TheVariants as feeds
 use Rattle.jv_host.specs.Host.{Admission, IsRunningAfter, IsOverAfter, after_feed, input_bytes}
-use Rattle.jv_host.specs.Calls.{NoneRuns}
+use Rattle.jv_host.specs.Calls.{NoneRuns, SomeRuns}
 use Rattle.jv_host.specs.Limits.{feed_refusal}
 use Rattle.jv_program_base.specs.declared.failure.Failure.{Failure}
 use Rattle.jv_program_base.specs.declared.failure.Failure.TheVariants.{StandardInput, FeedTooLong, HostMemory}
-use Rattle.jv_program_run.specs.Feeding.{CameInTime, IsPiece, IsTooLong, bytes_of_feeds}
+use Rattle.jv_program_run.specs.Feeding.{CameInTime, IsPiece, bytes_of_feeds}
 
 -- ---- turns
 
@@ -91,14 +91,28 @@ pub record IsFedRun (n most id : ℕ) (old new : List Admission) (before after :
 abbrev pub IsNextFailure : (id : ℕ) → List Admission → (before after : Option (List ℕ)) → Failure → Type 0
 IsNextFailure id host before after StandardInput = ⊤
 IsNextFailure id host before after FeedTooLong =
-    (bytes : List ℕ) × Consumes before after bytes × (feed_refusal host id bytes ≡ Some feeds.InputTooLong)
+    (bytes : List ℕ) × (length bytes ≤ 4096) × Consumes before after bytes × (feed_refusal host id bytes ≡ Some feeds.InputTooLong)
 IsNextFailure id host before after HostMemory = ⊤
 IsNextFailure id host before after failure = ⊥
 
+-- More came than the guest at a place may have, before one more round than guests had, in which some still takes steps.
+pub record IsFedTooMuch (n most id : ℕ) (old : List Admission) (before after : Option (List ℕ)) : Type 0 where
+  pub rounds : ℕ
+  pub few : rounds < most
+  pub host : List Admission
+  pub played : PlayedSince n rounds old host
+  pub only : OnlyFed id host
+  pub between : Option (List ℕ)
+  pub read : ReadSoFar id rounds host before between true
+  pub runs : SomeRuns host
+  pub last : List ℕ
+  pub piece : length last ≤ 4096
+  pub came : Consumes between after last
+  pub refused : feed_refusal host id last ≡ Some feeds.InputTooLong
+
 -- why the rounds ended early: the input can't be read, the guest has more of it than it may have, or the host had no memory for it
-abbrev pub IsFeedFailure : (id : ℕ) → List Admission → (before after : Option (List ℕ)) → Failure → Type 0
-IsFeedFailure id host before after StandardInput = ⊤
-IsFeedFailure id host before after FeedTooLong =
-    (a : Admission) × (slice_get host id ≡ Some a) × IsTooLong a.guest before after
-IsFeedFailure id host before after HostMemory = ⊤
-IsFeedFailure id host before after failure = ⊥
+abbrev pub IsFeedFailure : (n most id : ℕ) → List Admission → (before after : Option (List ℕ)) → Failure → Type 0
+IsFeedFailure n most id old before after StandardInput = ⊤
+IsFeedFailure n most id old before after FeedTooLong = IsFedTooMuch n most id old before after
+IsFeedFailure n most id old before after HostMemory = ⊤
+IsFeedFailure n most id old before after failure = ⊥

@@ -40,12 +40,15 @@ loop-round-preserved g c =
 
 pub returns-in_err-more-clause-err : goal.returns-in_err-more-clause-err
 returns-in_err-more-clause-err g c =
+    let n = c.args.settings.quantum in
+    let most = c.args.settings.rounds in
     let id = c.args.id.0 in
     let r = c.loop-round.round in
-    passed_on c.from_residual.result c.in_err-more.field-0.0
-    (IsFeedFailure id c.args.host.now (g.I.Read.remaining c.args.input.now) (g.I.Read.remaining c.feed_next.new.input)) c.from_residual.ensures.1
-    (not_fed c.args.settings.quantum r id c.args.host.now c.loop-round.host (g.I.Read.remaining c.args.input.now) (g.I.Read.remaining c.loop-round.input)
-    (g.I.Read.remaining c.feed_next.new.input) c.loop-round.more c.requires.there c.loop-round.invariant c.in_err-more.field-0.0 (c.in_err-more.ensures {u = tt}).err)
+    let b0 = g.I.Read.remaining c.args.input.now in
+    let b2 = g.I.Read.remaining c.feed_next.new.input in
+    passed_on c.from_residual.result c.in_err-more.field-0.0 (IsFeedFailure n most id c.args.host.now b0 b2) c.from_residual.ensures.1
+    (not_fed n most r id c.args.host.now c.loop-round.host b0 (g.I.Read.remaining c.loop-round.input) b2 c.loop-round.more c.if-more.true c.loop-round-test.true
+    (c.any_runs.ensures.some (search rules)) c.loop-round.invariant c.in_err-more.field-0.0 (c.in_err-more.ensures {u = tt}).err)
 
 pub returns-then-not-any_runs-clause-ok : goal.returns-then-not-any_runs-clause-ok
 returns-then-not-any_runs-clause-ok g c =

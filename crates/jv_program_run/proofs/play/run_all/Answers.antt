@@ -4,7 +4,8 @@ use Rattle.jv_host.specs.Started.{budget_of}
 use Rattle.jv_program_run.specs.Inside.Brought.{named_guest_of}
 use Rattle.jv_program_run.specs.Outcome.{IsFeedingFailure}
 use Rattle.jv_program_base.proofs.Places.{passed_on}
-use Rattle.jv_program_run.proofs.Played.{all_at_start, fed_run, fed_there, feeding_failed, one_of, unfed_run}
+use Rattle.jv_program_run.proofs.Played.{all_at_start, fed_run, fed_there, one_of, unfed_run}
+use Rattle.jv_program_run.proofs.Overfed.{feeding_failed}
 use Rattle.jv_program_run.proofs.play.run_all.Goals as goal
 
 pub run_fed-requires-clause-start : goal.run_fed-requires-clause-start
@@ -28,8 +29,10 @@ returns-in_err-_rounds-clause-err g c =
     let b0 = g.I.Read.remaining c.args.input.now in
     let b1 = g.I.Read.remaining c.run_fed.new.input in
     let failure = c.in_err-_rounds.field-0.0 in
-    passed_on c.from_residual.result failure (IsFeedingFailure s.stdin guests b0 b1) c.from_residual.ensures.1
-    (feeding_failed (budget_of s.budget) guests c.args.host.now c.requires.start s.stdin c.in-Some.number b0 b1 failure c.in-Some.is (c.in_err-_rounds.ensures {u = tt}).err)
+    let number = c.in-Some.number in
+    passed_on c.from_residual.result failure (IsFeedingFailure s guests b0 b1) c.from_residual.ensures.1
+    (feeding_failed c.shows_one_thing.ensures s guests c.args.host.now c.requires.start number c.in-Some.is
+    (one_of s.stdin number (length c.args.guests.now) c.in-Some.is c.requires.fed).0 b0 b1 failure (c.in_err-_rounds.ensures {u = tt}).err)
 
 pub returns-clause-ok : goal.returns-clause-ok
 returns-clause-ok g c =
