@@ -3,7 +3,8 @@ ghost use Rattle.std.specs.Prelude.{None};
 
 use crate::beyond::{CONSTANT, DADD, DYNAMIC, FIELD, FLAGS, NAMED};
 use crate::files::{ECHO_FILE, HI};
-use jv_program_base::Folders;
+use jv_program_base::{Folders, read_past_limit};
+use std::alloc::Global;
 use std::io;
 use std::io::{Error, ErrorKind, Read};
 
@@ -279,9 +280,9 @@ static FILES: [Held; 24] = [
 #[derive(Clone, Copy)]
 pub(crate) struct Memory;
 
-fn found(table: &[Held], path: &str) -> io::Result<Pieces> {
+fn found(table: &[Held], path: &[u8]) -> io::Result<Pieces> {
     for held in table {
-        if held.path == path {
+        if held.path.as_bytes() == path {
             return Ok(Pieces {
                 bytes: held.bytes,
                 piece: held.piece,
@@ -293,17 +294,15 @@ fn found(table: &[Held], path: &str) -> io::Result<Pieces> {
 }
 
 impl Folders for Memory {
-    type File = Pieces;
-
-    type Listing = Pieces;
-
     ghost disk = { λ _. None };
 
-    fn open_file(&mut self, path: &str) -> io::Result<Pieces> {
-        found(&FILES, path)
+    fn read_file(&mut self, alloc: Global, path: &[u8], limit: usize) -> io::Result<Vec<u8>> {
+        let mut file = found(&FILES, path)?;
+        read_past_limit(alloc, &mut file, limit)
     }
 
-    fn open_folder(&mut self, path: &str) -> io::Result<Pieces> {
-        found(&LISTINGS, path)
+    fn list_folder(&mut self, alloc: Global, path: &[u8], limit: usize) -> io::Result<Vec<u8>> {
+        let mut listing = found(&LISTINGS, path)?;
+        read_past_limit(alloc, &mut listing, limit)
     }
 }

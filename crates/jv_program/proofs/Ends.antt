@@ -1,5 +1,5 @@
 -- How the program ends.
-use Rattle.std.proofs.Common.{◌≡◌, ◌≢◌, ◌⊎◌, ℕ, Bool, true, false, List, [], Option, None, Result, Ok, Err, refl, sym, subst, ◌∙◌, inl, inr, append-nil}
+use Rattle.std.proofs.Common.{◌≡◌, ◌≢◌, ◌⊎◌, ℕ, Bool, true, false, List, Option, None, Result, Ok, Err, refl, sym, subst, ◌∙◌, inl, inr}
 use Rattle.std.specs.Prelude.{IfErr, IfOk, IsErrAnd, IsOk, IsTrue, OnErr, OnOk}
 use Rattle.std.specs.Io.KnownBytes.{Appends}
 use Rattle.std.proofs.KnownBytes.{Appends-trans}
@@ -22,7 +22,7 @@ use Rattle.jv_program_words.specs.Settings.{AskFor, AskForHelp, AreRefused}
 use Rattle.jv_program.specs.Command.{AreWrong, AskForCompany, HasEnded, IsReport, IsToldBeside, settings_of, streams}
 use Rattle.jv_program.specs.Inside.Stops.{IsCarriedOut, IsEarly}
 use Rattle.jv_program.specs.Status.{HasStatus, IsAsked, IsStatusOf, output_line}
-use Rattle.jv_program.specs.Written.{WritesCut, WritesFront, beside_of, shown_of}
+use Rattle.jv_program.specs.Written.{IsWritten, WritesCut, WritesFront, beside_of, shown_of}
 use Rattle.jv_program.specs.declared.stop.Stop.{Stop}
 use Rattle.jv_program.specs.declared.stop.Stop.TheVariants.{CommandLine, Run, Output}
 
@@ -59,35 +59,35 @@ help_asked line error (inr nothing) (inl help) = let none : kinds.ValueValidatio
 help_asked line error (inr nothing) (inr version) =
     let none : kinds.ValueValidation ≡ kinds.DisplayVersion = sym nothing.2 ∙ version in cc
 
--- what was written whole or cut is a front
-pub front_of : {T E : Type 0} (old new : Option (List ℕ)) (text : List ℕ) (result : Result T E) → OnOk result (Appends old new text)
-    → OnErr result (WritesCut old new text) → WritesFront old new text
-front_of old new text (Ok t) whole cut = (text, [], sym (append-nil text), whole)
-front_of old new text (Err e) whole cut = (cut.0, cut.1, cut.3, cut.4)
-
 -- what was told: nothing on the output, but where words ask for it; and with the errors the line of a failure, or of an output that is lost
 pub record IsToldOf (sure : Bool) (mid new e0 e1 : Option (List ℕ)) (stop : Stop) : Type 0 where
   pub quiet : (IsAsked stop → ⊥) → new ≡ mid
   pub calm : IsAsked stop → e1 ≡ e0
-  pub failure : (failure : Failure) → stop ≡ Run failure → IsTrue sure → Appends e0 e1 (failure_line failure)
-  pub output : stop ≡ Output → IsTrue sure → Appends e0 e1 output_line
-  pub front : stop ≡ Output → WritesFront e0 e1 output_line
+  pub failure : (failure : Failure) → stop ≡ Run failure → (IsTrue sure → Appends e0 e1 (failure_line failure)) × WritesFront e0 e1 (failure_line failure)
+  pub output : stop ≡ Output → (IsTrue sure → Appends e0 e1 output_line) × WritesFront e0 e1 output_line
 
 on_ok : {T E P : Type 0} (result : Result T E) → OnOk result P → IsOk result → P
 on_ok (Ok t) p ok = p
 on_ok (Err e) p ok = absurd (cc)
 
+-- a line that was written, where no write fails the whole of it
+line_told : {T E : Type 0} (sure : Bool) (e0 e1 told : Option (List ℕ)) (line : List ℕ) (result : Result T E) → e1 ≡ told → (IsTrue sure → IsOk result)
+    → IsWritten result e0 told line → (IsTrue sure → Appends e0 e1 line) × WritesFront e0 e1 line
+line_told sure e0 e1 told line result same is_sure written = (
+  λ yes. subst (λ e. Appends e0 e line) (sym same) (on_ok result written.0 (is_sure yes)),
+  subst (λ e. WritesFront e0 e line) (sym same) written.1,
+)
+
 -- what `tell` says
 pub told_of : {T E : Type 0} (sure : Bool) (mid new e0 e1 told : Option (List ℕ)) (stop : Stop) (result : Result T E) → e1 ≡ told
     → ((IsAsked stop → ⊥) → new ≡ mid) → (IsAsked stop → told ≡ e0)
-    → ((failure : Failure) → stop ≡ Run failure → OnOk result (Appends e0 told (failure_line failure))) → (stop ≡ Output → OnOk result (Appends e0 told output_line))
-    → ((IsAsked stop → ⊥) → IsTrue sure → IsOk result) → (stop ≡ Output → WritesFront e0 told output_line) → IsToldOf sure mid new e0 e1 stop
-told_of sure mid new e0 e1 told stop result same quiet calm failure output is_sure front = record {
+    → ((failure : Failure) → stop ≡ Run failure → IsWritten result e0 told (failure_line failure)) → (stop ≡ Output → IsWritten result e0 told output_line)
+    → ((IsAsked stop → ⊥) → IsTrue sure → IsOk result) → IsToldOf sure mid new e0 e1 stop
+told_of sure mid new e0 e1 told stop result same quiet calm failure output is_sure = record {
   quiet = quiet;
   calm = λ asked. same ∙ calm asked;
-  failure = λ f e yes. subst (λ e2. Appends e0 e2 (failure_line f)) (sym same) (on_ok result (failure f e) (is_sure (λ h. subst IsAsked e h) yes));
-  output = λ e yes. subst (λ e2. Appends e0 e2 output_line) (sym same) (on_ok result (output e) (is_sure (λ h. subst IsAsked e h) yes));
-  front = λ e. subst (λ e2. WritesFront e0 e2 output_line) (sym same) (front e);
+  failure = λ f e. line_told sure e0 e1 told (failure_line f) result same (is_sure (λ h. subst IsAsked e h)) (failure f e);
+  output = λ e. line_told sure e0 e1 told output_line result same (is_sure (λ h. subst IsAsked e h)) (output e);
 }
 
 abbrev pub IsToldAfter : Bool → Option (List ℕ) → Option (List ℕ) → Option (List ℕ) → Option (List ℕ) → Result Outcome Stop → Type 0
@@ -119,7 +119,8 @@ stopped disk so se line b0 b1 old mid new e0 e1 e2 (Run failure) status done tol
       why = inr (record {
         failure = failure;
         why = done.0;
-        told = λ yes. subst (λ e. Appends e e2 (failure_line failure)) done.2 (told.failure failure refl yes);
+        told = λ yes. subst (λ e. Appends e e2 (failure_line failure)) done.2 ((told.failure failure refl).0 yes);
+        front = subst (λ e. WritesFront e e2 (failure_line failure)) done.2 (told.failure failure refl).1;
         ends = is;
       });
     })))
@@ -130,9 +131,9 @@ stopped disk so se line b0 b1 old mid new e0 e1 e2 Output status done told is =
       report = done.1;
       front = subst (λ (o : Option (List ℕ)). WritesCut old o (shown_of done.0)) (sym same) done.2;
       unsure = done.3;
-      told = λ yes. Appends-trans e0 e1 e2 (beside_of done.0) output_line (done.4.told yes) (told.output refl yes);
+      told = λ yes. Appends-trans e0 e1 e2 (beside_of done.0) output_line (done.4.told yes) ((told.output refl).0 yes);
       between = e1;
-      fronts = (done.4.front, told.front refl);
+      fronts = (done.4.front, (told.output refl).1);
       ends = is;
     }))
 

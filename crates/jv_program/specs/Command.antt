@@ -170,11 +170,12 @@ pub record IsCut (disk : Option Disk) (sure_output sure_errors : Bool) (line : L
   pub fronts : WritesFront before.errors between (beside_of outcome) × WritesFront between after.errors output_line
   pub ends : status ≡ 6
 
--- there is a failure, which is told, and its status
+-- there is a failure, which is told, whole or, where a write fails, its line's front, and its status
 pub record HasFailed (disk : Option Disk) (sure_errors : Bool) (line : List (List ℕ)) (before after : Streams) (status : ℕ) : Type 0 where
   pub failure : Failure
   pub why : IsFailure disk line before.input after.input failure
   pub told : IsTold sure_errors before after (failure_line failure)
+  pub front : WritesFront before.errors after.errors (failure_line failure)
   pub ends : status ≡ failure_status failure
 
 -- no report, and nothing on the output: the words are wrong, with status 2, or there is a failure

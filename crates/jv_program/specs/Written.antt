@@ -1,5 +1,5 @@
 -- What is written.
-use Rattle.std.specs.Prelude.{◌≡◌, ◌≢◌, ◌++◌, ℕ, List, [], Option, Some, None, string_bytes, unwrap_or}
+use Rattle.std.specs.Prelude.{◌≡◌, ◌≢◌, ◌++◌, ℕ, List, [], OnOk, Option, Result, Some, None, string_bytes, unwrap_or}
 use Rattle.std.specs.Io.KnownBytes.{Appends}
 use Rattle.jv_program_base.specs.Outcome.{raw_bytes}
 use Rattle.jv_program_base.specs.declared.outcome.Outcome.{Outcome}
@@ -23,3 +23,7 @@ WritesCut old new text = (front : List ℕ) × (rest : List ℕ) × (rest ≢ []
 -- a text was written, whole or its front, and nothing else
 abbrev pub WritesFront : Option (List ℕ) → Option (List ℕ) → List ℕ → Type 0
 WritesFront old new text = (front : List ℕ) × (rest : List ℕ) × (text ≡ front ++ rest) × Appends old new front
+
+-- a text was written, whole where this ends well, or its front, and nothing else
+abbrev pub IsWritten : {T E : Type 0} → Result T E → Option (List ℕ) → Option (List ℕ) → List ℕ → Type 0
+IsWritten result old new text = OnOk result (Appends old new text) × WritesFront old new text

@@ -6,6 +6,7 @@ mod program;
 mod progress;
 mod sink;
 mod stop;
+mod telling;
 mod written;
 
 pub use program::{command, command_watched, tell};

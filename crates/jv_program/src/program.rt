@@ -1,6 +1,5 @@
 //! The program: what words ask for is done, and told.
-ghost use Rattle.std.specs.Prelude.{◌≡◌, ℕ, false, List, Option, IfErr, IfOk, IsOk, IsTrue, OnOk, map, string_bytes};
-ghost use Rattle.std.specs.Io.KnownBytes.{Appends};
+ghost use Rattle.std.specs.Prelude.{◌≡◌, ℕ, false, List, Option, IfErr, IfOk, IsOk, IsTrue, map, string_bytes};
 ghost use Rattle.jv_program_base.specs.Disk.{Disk};
 ghost use Rattle.jv_program_base.specs.Failure.{failure_line};
 ghost use Rattle.jv_program_base.specs.declared.failure.Failure.{Failure};
@@ -12,12 +11,13 @@ ghost use Rattle.jv_program_run.specs.Named.{AreTaken, IsRunAs, IsRunFailure};
 ghost use Rattle.jv_program.specs.Command.{AskForCompany, HasEnded, IsBegun, IsReport, explain_settings_of, settings_of, streams};
 ghost use Rattle.jv_program.specs.Inside.Stops.{IsCarriedOut, IsEarly};
 ghost use Rattle.jv_program.specs.Status.{IsAsked, output_line};
-ghost use Rattle.jv_program.specs.Written.{WritesFront};
+ghost use Rattle.jv_program.specs.Written.{IsWritten};
 ghost use Rattle.jv_program.specs.declared.stop.Stop.TheVariants.{Output, Run};
 
 use crate::progress::Company;
 use crate::sink::{Lost, Sink};
 use crate::stop::{Stop, status_of, stop_of};
+use crate::telling::tell_failure;
 use crate::written::{tell_beside, write_bytes, write_report};
 use jv_program_base::{Failure, Folders, Outcome};
 use jv_program_check::check_named;
@@ -196,10 +196,8 @@ pub fn tell<O: Sink, E: Sink>(stop: &Stop, out: &mut O, err: &mut E) -> Result<(
     ensures quiet { (IsAsked stop.now → ⊥) → out.new ≡ out.old }
     ensures calm { IsAsked stop.now → err.new ≡ err.old }
     ensures failure { (failure : Failure) → stop.now ≡ Run failure
-        → OnOk result (Appends (E.contents err.old) (E.contents err.new) (failure_line failure)) }
-    ensures output { stop.now ≡ Output
-        → OnOk result (Appends (E.contents err.old) (E.contents err.new) output_line) }
-    ensures front { stop.now ≡ Output → WritesFront (E.contents err.old) (E.contents err.new) output_line }
+        → IsWritten result (E.contents err.old) (E.contents err.new) (failure_line failure) }
+    ensures output { stop.now ≡ Output → IsWritten result (E.contents err.old) (E.contents err.new) output_line }
     ensures sure { (IsAsked stop.now → ⊥) → IsTrue E.SURE → IsOk result }
 {
     match stop {
@@ -210,7 +208,7 @@ pub fn tell<O: Sink, E: Sink>(stop: &Stop, out: &mut O, err: &mut E) -> Result<(
                 out.tell(error)
             }
         }
-        Stop::Run(failure) => err.tell(failure),
+        Stop::Run(failure) => tell_failure(err, failure),
         Stop::Output => write_bytes(err, b"jvhost: output\n"),
     }
 }

@@ -1,12 +1,13 @@
 //! What is written on standard output, and beside it.
-ghost use Rattle.std.specs.Prelude.{◌≡◌, IfErr, IfOk, IsOk, IsTrue, None, OnErr, OnOk};
+ghost use Rattle.std.specs.Prelude.{◌≡◌, ◌++◌, ℕ, IfErr, IfOk, IsOk, IsTrue, List, None, OnErr, OnOk, Option};
 ghost use Rattle.std.specs.Io.KnownBytes.{Appends};
-ghost use Rattle.jv_program.specs.Written.{WritesCut, WritesFront, beside_of, shown_of};
+ghost use Rattle.jv_program_base.specs.Escape.{escaped_text};
+ghost use Rattle.jv_program.specs.Written.{IsWritten, WritesCut, WritesFront, beside_of, shown_of};
 ghost use Rattle.jv_program.specs.declared.stop.Stop.TheVariants.{Output};
 
 use crate::sink::{Lost, Sink};
 use crate::stop::Stop;
-use jv_program_base::Outcome;
+use jv_program_base::{Outcome, escape_of};
 
 /// Writes bytes, or fails where a write fails or takes none of them; what was written is then a front of them, and not all.
 pub(crate) fn write_bytes<O: Sink>(to: &mut O, bytes: &[u8]) -> Result<(), Lost>
@@ -23,6 +24,40 @@ pub(crate) fn write_bytes<O: Sink>(to: &mut O, bytes: &[u8]) -> Result<(), Lost>
         rest = &rest[count..];
     }
     Ok(())
+}
+
+/// Writes bytes behind others, where those were written.
+pub(crate) fn write_next<O: Sink>(
+    to: &mut O,
+    so_far: Result<(), Lost>,
+    bytes: &[u8],
+) -> Result<(), Lost>
+    ensures written { (start : Option (List ℕ)) (done : List ℕ) → IsWritten so_far start (O.contents to.old) done
+        → IsWritten result start (O.contents to.new) (done ++ bytes.now) }
+    ensures sure { IsTrue O.SURE → IsOk so_far → IsOk result }
+{
+    match so_far {
+        Ok(()) => write_bytes(to, bytes),
+        Err(Lost) => Err(Lost),
+    }
+}
+
+/// Writes bytes as they are printed behind others, where those were written.
+pub(crate) fn write_escaped<O: Sink>(
+    to: &mut O,
+    so_far: Result<(), Lost>,
+    bytes: &[u8],
+) -> Result<(), Lost>
+    ensures written { (start : Option (List ℕ)) (done : List ℕ) → IsWritten so_far start (O.contents to.old) done
+        → IsWritten result start (O.contents to.new) (done ++ escaped_text bytes.now) }
+    ensures sure { IsTrue O.SURE → IsOk so_far → IsOk result }
+{
+    let mut written = so_far;
+    for byte in bytes {
+        let (piece, len) = escape_of(*byte);
+        written = write_next(to, written, &piece[..len]);
+    }
+    written
 }
 
 /// What goes to the output: what a guest wrote, where that goes there in the report's place, and else the report.

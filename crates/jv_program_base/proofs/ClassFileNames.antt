@@ -1,5 +1,5 @@
 -- The names of a folder's class files, as texts.
-use Rattle.std.proofs.Common.{◌≡◌, ℕ, ◌+◌, ◌<◌, Bool, true, false, cond, List, [], ◌∷◌, length, get_or, map, refl, sym, ap, subst, ◌∙◌, arith}
+use Rattle.std.proofs.Common.{◌≡◌, ℕ, ◌+◌, ◌<◌, Bool, true, false, cond, List, [], ◌∷◌, length, get_or, map, Option, refl, sym, ap, subst, arith}
 use Rattle.std.specs.Prelude.{◌||◌, All, IsSorted, IsPermutation, Result, Ok, Err, IfOk, filter}
 use Rattle.std.specs.Global.{Vec}
 use Rattle.std.specs.List.{list_any}
@@ -12,7 +12,8 @@ use Rattle.std.proofs.lemmas.List.Sorted.{IsPermutation-map}
 use Rattle.jv_limits.specs.Bytes.{bytes_of}
 use Rattle.jv_program_base.specs.declared.failure.Failure.{Failure}
 use Rattle.jv_program_base.specs.declared.folder.NamedFile.{NamedFile}
-use Rattle.jv_program_base.specs.Folder.{AreClassFilesOf, IsReadUpToLimit, file_name}
+use Rattle.jv_program_base.specs.Disk.{Disk}
+use Rattle.jv_program_base.specs.Folder.{AreClassFilesOf, AreClassNames, IsFileIn, file_name}
 use Rattle.jv_program_base.specs.Names.{is_class_file}
 
 filter_step : (p : List ℕ → Bool) (name : Bor (List ℕ)) (names : List (Bor (List ℕ))) (b : Bool) → filter p (map bytes_of names) ≡ map bytes_of (filter (λ name. p name.now) names)
@@ -48,15 +49,16 @@ sorted_texts (name ∷ names) sorted k d low lt =
     subst (λ (text : List ℕ). is_lt (slice_cmp nat_cmp (get_or (map bytes_of (name ∷ names)) (k + 1) d) text) ≡ false) (sym here)
     (subst (λ (text : List ℕ). is_lt (slice_cmp nat_cmp text (bytes_of (get_or (name ∷ names) k name))) ≡ false) (sym next) (sorted k name low second))
 
-pub class_files_of : (names found lent : List (Bor (List ℕ))) (result : Result (Vec NamedFile) Failure) → IsPermutation (filter (λ name. is_class_file name.now) names) found
-    → IsSorted (λ a b. slice_cmp nat_cmp a.now b.now) found → lent ≡ found → IfOk result (λ files. map file_name files.items ≡ map bytes_of lent) →
-    IfOk result (λ files. All IsReadUpToLimit files.items)
-    → IfOk result (λ files. AreClassFilesOf (map bytes_of names) files.items)
-class_files_of names found lent (Err e) same sorted is named most = tt
-class_files_of names found lent (Ok files) same sorted is named most =
-    let texts : map bytes_of found ≡ map file_name files.items = sym (named ∙ ap (λ (ns : List (Bor (List ℕ))). map bytes_of ns) is) in
-    record {
-      exact = subst (λ (ts : List (List ℕ)). IsPermutation (filter is_class_file (map bytes_of names)) ts) texts (exact_texts names found same);
-      order = subst (λ (ts : List (List ℕ)). IsSorted (slice_cmp nat_cmp) ts) texts (sorted_texts found sorted);
-      most = most;
-    }
+-- they are the class files' names, in order
+pub class_names : (names found lent : List (Bor (List ℕ))) → IsPermutation (filter (λ name. is_class_file name.now) names) found
+    → IsSorted (λ a b. slice_cmp nat_cmp a.now b.now) found → lent ≡ found → AreClassNames (map bytes_of names) (map bytes_of lent)
+class_names names found lent same sorted is =
+    subst (λ (ns : List (Bor (List ℕ))). AreClassNames (map bytes_of names) (map bytes_of ns)) (sym is)
+    (record { exact = exact_texts names found same; order = sorted_texts found sorted })
+
+pub class_files_of : (disk : Option Disk) (word : List ℕ) (names classes : List (List ℕ)) (result : Result (Vec NamedFile) Failure) → AreClassNames names classes
+    → IfOk result (λ files. map file_name files.items ≡ classes) → IfOk result (λ files. All (IsFileIn disk word) files.items)
+    → IfOk result (λ files. AreClassFilesOf disk word names files.items)
+class_files_of disk word names classes (Err e) order named read = tt
+class_files_of disk word names classes (Ok files) order named read =
+    record { named = subst (AreClassNames names) (sym named) order; read = read }

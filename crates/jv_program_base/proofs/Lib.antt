@@ -1,5 +1,4 @@
 pub mod ClassFileNames
 pub mod NoLibrary
 pub mod NotRead
-pub mod Opened
 pub mod Places

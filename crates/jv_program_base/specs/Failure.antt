@@ -1,5 +1,5 @@
 -- What ends the program without a report.
-use Rattle.std.specs.Prelude.{◌≡◌, ◌⊎◌, ℕ, ⊤, IsTrue, List, ◌∷◌, [], ◌++◌, Some, codes, slice_get, string_bytes}
+use Rattle.std.specs.Prelude.{ℕ, List, ◌∷◌, [], ◌++◌, codes, string_bytes}
 use Rattle.jv_limits.specs.declared.fault.AdmitFault.{AdmitFault}
 use Rattle.jv_limits.specs.declared.fault.AdmitFault.TheVariants as refusals
 use Rattle.jv_limits.specs.declared.fault.FeedFault.{FeedFault}
@@ -8,7 +8,6 @@ use Rattle.jv_limits.specs.Fault.{admit_fault_name}
 use Rattle.jv_program_base.specs.declared.failure.Failure.{Failure}
 use Rattle.jv_program_base.specs.declared.failure.Failure.TheVariants.{Unreadable, StandardInput, LibraryRefused, Refused, FeedTooLong, TooManyFolders, NoGuest, HostMemory, OutOfMemory}
 use Rattle.jv_program_base.specs.Escape.{escaped_text}
-use Rattle.jv_program_base.specs.Names.{is_class_file}
 
 -- 2 for too many folders and a guest that isn't there, 3 for what can't be read or is refused, and 4 where memory was refused
 abbrev pub failure_status : Failure → ℕ
@@ -48,27 +47,3 @@ abbrev pub failure_of_feed : FeedFault → Failure
 failure_of_feed feeds.NoGuest = NoGuest
 failure_of_feed feeds.InputTooLong = FeedTooLong
 failure_of_feed feeds.HostMemory = HostMemory
-
--- why the file of a name was not read: the failure holds its name, or the program's memory was refused
-abbrev pub IsUnread : List ℕ → Failure → Type 0
-IsUnread name (Unreadable unread) = unread.items ≡ name
-IsUnread name OutOfMemory = ⊤
-IsUnread name failure = ⊥
-
--- a file of a folder that is read: a class file, `main` or `input`
-abbrev pub IsReadFile : (file : List ℕ) → Type 0
-IsReadFile file = IsTrue (is_class_file file) ⊎ ((file ≡ codes "main") ⊎ (file ≡ codes "input"))
-
--- the name of a folder, or of a file in it that is read: the word for the folder, `/` and the file's name
-abbrev pub IsNameIn : (word name : List ℕ) → Type 0
-IsNameIn word name = (name ≡ word) ⊎ ((file : List ℕ) × IsReadFile file × (name ≡ word ++ 47 ∷ file))
-
--- why the folder of a word was not read: it can't be, or a file in it can't, or the program's memory was refused
-abbrev pub IsNotRead : (word : List ℕ) → Failure → Type 0
-IsNotRead word (Unreadable unread) = IsNameIn word unread.items
-IsNotRead word OutOfMemory = ⊤
-IsNotRead word failure = ⊥
-
--- why the folders of words were not all read
-abbrev pub IsOneNotRead : (words : List (List ℕ)) → Failure → Type 0
-IsOneNotRead words failure = (place : ℕ) × (word : List ℕ) × (slice_get words place ≡ Some word) × IsNotRead word failure

@@ -19,52 +19,58 @@ file_bytes file = file.bytes.items
 abbrev pub path_in : (word file : List ℕ) → List ℕ
 path_in word file = word ++ 47 ∷ file
 
--- the path at which a folder is opened: its word and `/`
+-- the path at which a folder is read: its word and `/`
 abbrev pub folder_path : (word : List ℕ) → List ℕ
 folder_path word = word ++ 47 ∷ []
 
 -- ---- the folder of a listing
 
--- at most one byte more than a class file may have, which is 4,194,304
-abbrev pub IsReadUpToLimit : NamedFile → Type 0
-IsReadUpToLimit file = vec_len file.bytes ≤ 4194305
-
--- its bytes are those of the file of its name in the folder of a word
-abbrev pub IsFileIn : Option Disk → (word : List ℕ) → NamedFile → Type 0
-IsFileIn disk word file = IsReadAt disk (path_in word (file_name file)) 4194304 (file_bytes file)
-
--- the files are those whose names end in `.class`, each of them and no other, in byte order of their names
-pub record AreClassFilesOf (names : List (List ℕ)) (files : List NamedFile) : Type 0 where
-  pub exact : IsPermutation (filter is_class_file names) (map file_name files)
-  pub order : IsSorted (slice_cmp nat_cmp) (map file_name files)
-  pub most : All IsReadUpToLimit files
-
--- the class files in the folder of a word, which isn't empty, with the listing that stands there, of at most 4,294,967,296 bytes
-pub record AreClassFilesIn (disk : Option Disk) (word : List ℕ) (files : List NamedFile) : Type 0 where
+-- the names in the folder of a word, which isn't empty: those of the listing that stands there, of at most 4,294,967,296 bytes
+pub record AreNamesIn (disk : Option Disk) (word : List ℕ) (names : List (List ℕ)) : Type 0 where
   pub named : word ≢ []
   pub listing : List ℕ
   pub most : length listing ≤ 4294967296
   pub listed : IsListedAt disk (folder_path word) 4294967296 listing
-  pub exact : AreClassFilesOf (names_listed listing) files
-  pub bytes : All (IsFileIn disk word) files
+  pub exact : names ≡ names_listed listing
 
--- The folder of a word, whose listing has these names: its class files are theirs, with the bytes that stand there; its file `main` is
+-- the names among some that end in `.class`, each of them and no other, in byte order
+pub record AreClassNames (names classes : List (List ℕ)) : Type 0 where
+  pub exact : IsPermutation (filter is_class_file names) classes
+  pub order : IsSorted (slice_cmp nat_cmp) classes
+
+-- its bytes are those of the file of its name in the folder of a word, at most one more than a class file may have, which is 4,194,304
+abbrev pub IsFileIn : Option Disk → (word : List ℕ) → NamedFile → Type 0
+IsFileIn disk word file =
+    (vec_len file.bytes ≤ 4194305) × IsReadAt disk (path_in word (file_name file)) 4194304 (file_bytes file)
+
+-- the class files of a folder with these names, in byte order of theirs
+pub record AreClassFilesOf (disk : Option Disk) (word : List ℕ) (names : List (List ℕ)) (files : List NamedFile) : Type 0 where
+  pub named : AreClassNames names (map file_name files)
+  pub read : All (IsFileIn disk word) files
+
+-- the class files in the folder of a word
+pub record AreClassFilesIn (disk : Option Disk) (word : List ℕ) (files : List NamedFile) : Type 0 where
+  pub names : List (List ℕ)
+  pub listed : AreNamesIn disk word names
+  pub exact : AreClassFilesOf disk word names files
+
+-- the bytes of the file `main` of a folder
+abbrev pub IsMainIn : Option Disk → (word main : List ℕ) → Type 0
+IsMainIn disk word main = (length main ≤ 4194304) × IsReadAt disk (path_in word (codes "main")) 4194304 main
+
+-- The folder of a word, in which there are these names: its class files are theirs, with the bytes that stand there; its file `main` is
 -- read, and where the name `input` is among them its input; else that is empty.
 pub record IsFolderOf (disk : Option Disk) (word : List ℕ) (names : List (List ℕ)) (folder : Folder) : Type 0 where
-  pub class_files : AreClassFilesOf names folder.class_files.items
-  pub bytes : All (IsFileIn disk word) folder.class_files.items
-  pub main : vec_len folder.main ≤ 4194304
-  pub main_bytes : IsReadAt disk (path_in word (codes "main")) 4194304 folder.main.items
+  pub class_files : AreClassFilesOf disk word names folder.class_files.items
+  pub main : IsMainIn disk word folder.main.items
   pub input : vec_len folder.input ≤ 16777217
   pub input_bytes :
       is_listed_name (codes "input") names ≡ true → IsReadAt disk (path_in word (codes "input")) 16777216 folder.input.items
   pub no_input : is_listed_name (codes "input") names ≡ false → folder.input.items ≡ []
 
--- the folder of a word, which isn't empty, with the listing that stands there, of at most 4,294,967,296 bytes
+-- the folder of a word
 pub record IsFolderRead (disk : Option Disk) (word : List ℕ) (folder : Folder) : Type 0 where
   pub word_is : folder.word.now ≡ word
-  pub named : word ≢ []
-  pub listing : List ℕ
-  pub most : length listing ≤ 4294967296
-  pub listed : IsListedAt disk (folder_path word) 4294967296 listing
-  pub files : IsFolderOf disk word (names_listed listing) folder
+  pub names : List (List ℕ)
+  pub listed : AreNamesIn disk word names
+  pub files : IsFolderOf disk word names folder

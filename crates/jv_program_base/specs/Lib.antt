@@ -6,5 +6,6 @@ pub mod Library
 pub mod MainName
 pub mod Names
 pub mod Outcome
+pub mod Unread
 pub mod Verdict
 pub mod Inside

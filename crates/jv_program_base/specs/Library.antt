@@ -6,19 +6,25 @@ use Rattle.jv_limits.specs.Fault.{admit_fault_name}
 use Rattle.jv_limits.specs.FileLimits.{first_file_refusal}
 use Rattle.jv_loader.specs.declared.library_fault.LibraryFault.{LibraryFault}
 use Rattle.jv_loader.specs.declared.library_fault.LibraryFault.TheVariants as faults
-use Rattle.jv_loader.specs.LibraryFault.{IsLibraryFault}
+use Rattle.jv_loader.specs.LibraryFault.{IsLibraryFault, IsSomeLibrary}
 use Rattle.jv_program_base.specs.declared.failure.Failure.{Failure}
 use Rattle.jv_program_base.specs.declared.failure.Failure.TheVariants.{Unreadable, LibraryRefused, OutOfMemory}
 use Rattle.jv_program_base.specs.declared.folder.NamedFile.{NamedFile}
 use Rattle.jv_program_base.specs.Disk.{Disk}
-use Rattle.jv_program_base.specs.Failure.{IsNameIn}
 use Rattle.jv_program_base.specs.Folder.{AreClassFilesIn, file_bytes, file_name, path_in}
+use Rattle.jv_program_base.specs.Unread.{IsNoClassFolder}
 
--- The files of a library: those in the folder of a word, as many and as long as those of a guest may be; without a word there are none.
+-- The files of a library: those in the folder of a word, as many and as long as those of a guest may be, which are a library; without a
+-- word there are none.
 abbrev pub AreLibraryFiles : Option Disk → Option (List ℕ) → (library : List (List ℕ)) → Type 0
 AreLibraryFiles disk None library = library ≡ []
 AreLibraryFiles disk (Some word) library =
     (files : List NamedFile) × AreClassFilesIn disk word files × (library ≡ map file_bytes files) × (first_file_refusal library ≡ None)
+    × IsSomeLibrary library
+
+-- the library was read, where a word names one
+abbrev pub IsLibraryRead : Option Disk → Option (List ℕ) → Type 0
+IsLibraryRead disk word = (library : List (List ℕ)) × AreLibraryFiles disk word library
 
 -- ---- files that are no library
 
@@ -66,9 +72,9 @@ AreNoLibrary word files name reason =
     ⊎ ((fault : LibraryFault) × (fault ≢ faults.OutOfMemory) × IsLibraryFault (map file_bytes files) fault
     × (name ≡ path_at word (map file_name files) (fault_place fault)) × (reason ≡ library_fault_name fault))
 
--- Why there is no library: its folder, or a file in it, can't be read; or its files are none; or the program's memory was refused.
+-- Why there is no library: its folder, or a class file in it, can't be read; or its files are none; or the program's memory was refused.
 abbrev pub IsLibraryFailure : Option Disk → (library : Option (List ℕ)) → Failure → Type 0
-IsLibraryFailure disk library (Unreadable name) = (word : List ℕ) × (library ≡ Some word) × IsNameIn word name.items
+IsLibraryFailure disk library (Unreadable told) = (word : List ℕ) × (library ≡ Some word) × IsNoClassFolder disk word told.items
 IsLibraryFailure disk library (LibraryRefused name reason) =
     (word : List ℕ) × (library ≡ Some word) × (files : List NamedFile) × AreClassFilesIn disk word files
     × AreNoLibrary word files name.items (string_bytes reason)

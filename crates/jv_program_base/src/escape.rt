@@ -1,6 +1,6 @@
 //! How bytes are printed: a byte outside 0x20 to 0x7E, and the backslash, as `\xhh`.
-ghost use Rattle.std.specs.Prelude.{◌≡◌, Some};
-ghost use Rattle.jv_program_base.specs.Escape.{escaped_text, escaped_byte, is_plain};
+ghost use Rattle.std.specs.Prelude.{◌≡◌, ◌≤◌, ◌<◌, Some, take};
+ghost use Rattle.jv_program_base.specs.Escape.{escaped_text, escaped_byte, hex_digit, is_plain};
 
 use std::fmt;
 
@@ -17,6 +17,30 @@ fn is_shown_plain(byte: u8) -> bool
     ensures { result ≡ is_plain byte }
 {
     32 <= byte && byte <= 126 && byte != b'\\'
+}
+
+/// A digit of base sixteen.
+fn hex_digit(digit: u8) -> u8
+    requires { digit < 16 }
+    ensures { result ≡ hex_digit digit }
+{
+    if digit < 10 {
+        b'0' + digit
+    } else {
+        b'a' - 10 + digit
+    }
+}
+
+/// A byte as it is printed: the first of these bytes, and how many of them.
+pub fn escape_of(byte: u8) -> ([u8; 4], usize)
+    ensures few { result.1 ≤ 4 }
+    ensures text { take result.1 result.0 ≡ escaped_byte byte }
+{
+    if is_shown_plain(byte) {
+        ([byte, 0, 0, 0], 1)
+    } else {
+        ([b'\\', b'x', hex_digit(byte / 16), hex_digit(byte % 16)], 4)
+    }
 }
 
 impl fmt::Display for EscapedByte {

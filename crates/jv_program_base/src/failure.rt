@@ -1,12 +1,10 @@
-//! Why there is no report: the status that the program ends with, and its line.
-ghost use Rattle.std.specs.Prelude.{◌≡◌, Some};
-ghost use Rattle.jv_program_base.specs.Failure.{failure_line, failure_of, failure_of_feed, failure_status};
+//! Why there is no report, and the status that the program ends with.
+ghost use Rattle.std.specs.Prelude.{◌≡◌};
+ghost use Rattle.jv_program_base.specs.Failure.{failure_of, failure_of_feed, failure_status};
 ghost use Rattle.jv_program_base.specs.declared.failure.Failure.TheVariants.{OutOfMemory};
 
-use crate::escape::Escaped;
 use jv_limits::{AdmitFault, FeedFault};
 use std::alloc::AllocError;
-use std::fmt;
 
 /// Why there is no report.
 #[derive(Drop)]
@@ -44,30 +42,6 @@ impl Failure {
             | Failure::Refused(_)
             | Failure::FeedTooLong => 3,
             Failure::HostMemory | Failure::OutOfMemory => 4,
-        }
-    }
-}
-
-impl fmt::Display for Failure {
-    ghost output = { λ failure. Some (failure_line failure) };
-
-    fn fmt<W: fmt::Write>(&self, f: &mut fmt::Formatter<W>) -> fmt::Result {
-        match self {
-            Failure::Unreadable(name) => {
-                let name = Escaped(name.as_slice());
-                write!(f, "jvhost: {name}: cannot be read\n")
-            }
-            Failure::StandardInput => f.write_str("jvhost: standard input: cannot be read\n"),
-            Failure::LibraryRefused(name, reason) => {
-                let name = Escaped(name.as_slice());
-                write!(f, "jvhost: {name}: {reason}\n")
-            }
-            Failure::Refused(fault) => write!(f, "jvhost: {fault}\n"),
-            Failure::FeedTooLong => f.write_str("jvhost: InputTooLong\n"),
-            Failure::TooManyFolders => f.write_str("jvhost: TooManyGuests\n"),
-            Failure::NoGuest => f.write_str("jvhost: NoGuest\n"),
-            Failure::HostMemory => f.write_str("jvhost: HostMemory\n"),
-            Failure::OutOfMemory => f.write_str("jvhost: Memory\n"),
         }
     }
 }

@@ -1,16 +1,15 @@
 //! What a folder holds of a guest.
-ghost use Rattle.std.specs.Prelude.{◌≡◌, ◌≢◌, ◌≤◌, ◌+◌, ◌<◌, ◌^◌, [], ◌∷◌, ◌++◌, ℕ, All, IfErr, IfOk, IsOk, List, codes, false, true, map, string_bytes, vec_len};
+ghost use Rattle.std.specs.Prelude.{◌≡◌, ◌≢◌, ◌≤◌, ◌+◌, ◌<◌, ◌^◌, ◌⊎◌, [], All, IfErr, IfOk, IsErr, IsOk, List, codes, false, true, map, vec_len};
 ghost use Rattle.std.specs.IoError.{error_kind};
 ghost use Rattle.jv_limits.specs.Bytes.{bytes_of};
-ghost use Rattle.jv_program_base.specs.Failure.{IsNotRead, IsUnread};
-ghost use Rattle.jv_program_base.specs.Inside.Reading.{IsOneUnreadIn};
-ghost use Rattle.jv_program_base.specs.Disk.{IsListedAt, IsReadAt};
-ghost use Rattle.jv_program_base.specs.Folder.{AreClassFilesIn, AreClassFilesOf, IsFileIn, IsFolderOf, IsFolderRead, IsReadUpToLimit, file_bytes, file_name};
+ghost use Rattle.jv_program_base.specs.Disk.{IsListedAt, IsReadAt, LacksFileUpTo, LacksFolderUpTo};
+ghost use Rattle.jv_program_base.specs.Folder.{AreClassFilesIn, AreClassFilesOf, IsFileIn, IsFolderOf, IsFolderRead, IsMainIn, file_bytes, file_name};
 ghost use Rattle.jv_program_base.specs.Folder.{folder_path, path_in};
 ghost use Rattle.jv_program_base.specs.Names.{is_listed_name};
+ghost use Rattle.jv_program_base.specs.Unread.{IsFirstMissing, IsNoClassFile, IsNoClassFolder, IsNoFile, IsNoFolder, IsNoListing, IsUnread};
+ghost use Rattle.jv_program_base.specs.Inside.Reading.{IsNoFileOf};
 
 use crate::failure::Failure;
-use crate::file::read_past_limit;
 use crate::folders::Folders;
 use crate::names::{class_file_names, is_listed_name, names_in};
 use std::alloc::{AllocError, Global};
@@ -58,36 +57,35 @@ pub(crate) fn path_in(alloc: Global, folder: &str, name: &[u8]) -> Result<Vec<u8
     Ok(path)
 }
 
-/// What an error of the system means for the file or folder of this name.
-fn failure_at(name: Vec<u8>, error: &Error) -> Failure
-    ensures memory { error_kind error.now ≡ ErrorKind.OutOfMemory → result ≡ Failure.OutOfMemory }
-    ensures other { error_kind error.now ≢ ErrorKind.OutOfMemory
-        → result ≡ Failure.Unreadable name }
+/// What an error of the system means for the file or folder that is told so.
+fn failure_at(told: Vec<u8>, error: &Error) -> Failure
+    ensures { ((error_kind error.now ≡ ErrorKind.OutOfMemory) × (result ≡ Failure.OutOfMemory))
+        ⊎ ((error_kind error.now ≢ ErrorKind.OutOfMemory) × (result ≡ Failure.Unreadable told)) }
 {
     if error.kind() == ErrorKind::OutOfMemory {
         Failure::OutOfMemory
     } else {
-        Failure::Unreadable(name)
+        Failure::Unreadable(told)
     }
 }
 
 /// The bytes of the file at a path, or one more than the limit where there are more than that.
-fn bytes_at<F: Folders>(
+fn read_at<F: Folders>(
     alloc: Global,
     folders: &mut F,
-    path: &[u8],
+    path: Vec<u8>,
     limit: usize,
-) -> io::Result<Vec<u8>>
+) -> Result<Vec<u8>, Failure>
     requires { limit + 2 < 2 ^ 64 }
     ensures most { IfOk result (λ bytes. vec_len bytes ≤ limit + 1) }
-    ensures read { IfOk result (λ bytes. IsReadAt (F.disk folders.old) path.now limit bytes.items) }
+    ensures read { IfOk result (λ bytes. IsReadAt (F.disk folders.old) path.items limit bytes.items) }
+    ensures err { IfErr result (IsUnread (IsNoFile (F.disk folders.old) path.items)) }
     ensures disk { F.disk folders.new ≡ F.disk folders.old }
 {
-    let Ok(path) = std::str::from_utf8(path) else {
-        return Err(Error::from(ErrorKind::InvalidFilename));
-    };
-    let mut file = folders.open_file(path)?;
-    read_past_limit(alloc, &mut file, limit)
+    match folders.read_file(alloc, path.as_slice(), limit) {
+        Ok(bytes) => Ok(bytes),
+        Err(error) => Err(failure_at(path, &error)),
+    }
 }
 
 /// The bytes of a file in a folder.
@@ -101,41 +99,30 @@ fn read_file<F: Folders>(
     requires { limit + 2 < 2 ^ 64 }
     ensures most { IfOk result (λ bytes. vec_len bytes ≤ limit + 1) }
     ensures read { IfOk result (λ bytes. IsReadAt (F.disk folders.old) (path_in folder.now name.now) limit bytes.items) }
-    ensures err { IfErr result (IsUnread (path_in folder.now name.now)) }
+    ensures err { IfErr result (IsUnread (IsNoFile (F.disk folders.old) (path_in folder.now name.now))) }
     ensures disk { F.disk folders.new ≡ F.disk folders.old }
 {
     let path = path_in(alloc, folder, name)?;
-    match bytes_at(alloc, folders, path.as_slice(), limit) {
-        Ok(bytes) => Ok(bytes),
-        Err(error) => Err(failure_at(path, &error)),
-    }
-}
-
-/// The path at which a folder is opened.
-fn folder_path(alloc: Global, folder: &str) -> Result<String, AllocError>
-    ensures { IfOk result (λ path. string_bytes path ≡ folder_path folder.now) }
-{
-    let mut path = String::from_str(alloc, folder)?;
-    path.push('/')?;
-    Ok(path)
+    read_at(alloc, folders, path, limit)
 }
 
 /// The listing of a folder: its names, each ended by a NUL. One that is longer than the limit can't be read.
 fn listing_at<F: Folders>(alloc: Global, folders: &mut F, folder: &str) -> io::Result<Vec<u8>>
     ensures most { IfOk result (λ listing. vec_len listing ≤ 4294967296) }
     ensures listed { IfOk result (λ listing. IsListedAt (F.disk folders.old) (folder_path folder.now) 4294967296 listing.items) }
+    ensures lacks { IfErr result (λ error. (error_kind error ≡ ErrorKind.OutOfMemory)
+        ⊎ LacksFolderUpTo 4294967296 (F.disk folders.old) (folder_path folder.now)) }
     ensures disk { F.disk folders.new ≡ F.disk folders.old }
 {
-    let path = folder_path(alloc, folder)?;
-    let mut file = folders.open_folder(path.as_str())?;
-    let listing = read_past_limit(alloc, &mut file, LISTING_LIMIT)?;
+    let path = path_in(alloc, folder, b"")?;
+    let listing = folders.list_folder(alloc, path.as_slice(), LISTING_LIMIT)?;
     if listing.len() > LISTING_LIMIT {
         return Err(Error::from(ErrorKind::FileTooLarge));
     }
     Ok(listing)
 }
 
-/// The listing of a folder, or the failure that names the folder.
+/// The listing of a folder whose word isn't empty, or the failure that tells the word.
 fn read_listing<F: Folders>(
     alloc: Global,
     folders: &mut F,
@@ -143,14 +130,14 @@ fn read_listing<F: Folders>(
 ) -> Result<Vec<u8>, Failure>
     ensures most { IfOk result (λ listing. vec_len listing ≤ 4294967296) }
     ensures listed { IfOk result (λ listing. IsListedAt (F.disk folders.old) (folder_path folder.now) 4294967296 listing.items) }
-    ensures err { IfErr result (IsUnread folder.now) }
+    ensures err { IfErr result (IsUnread (IsNoListing (F.disk folders.old) folder.now)) }
     ensures disk { F.disk folders.new ≡ F.disk folders.old }
 {
     match listing_at(alloc, folders, folder) {
         Ok(listing) => Ok(listing),
         Err(error) => {
-            let name = Vec::from_slice(alloc, folder.as_bytes())?;
-            Err(failure_at(name, &error))
+            let told = Vec::from_slice(alloc, folder.as_bytes())?;
+            Err(failure_at(told, &error))
         }
     }
 }
@@ -160,7 +147,7 @@ fn read_named<F: Folders>(alloc: Global, folders: &mut F, word: &str) -> Result<
     ensures named { IsOk result → word.now ≢ [] }
     ensures most { IfOk result (λ listing. vec_len listing ≤ 4294967296) }
     ensures listed { IfOk result (λ listing. IsListedAt (F.disk folders.old) (folder_path word.now) 4294967296 listing.items) }
-    ensures err { IfErr result (IsUnread word.now) }
+    ensures err { IfErr result (IsUnread (IsNoListing (F.disk folders.old) word.now)) }
     ensures disk { F.disk folders.new ≡ F.disk folders.old }
 {
     if word.is_empty() {
@@ -177,9 +164,8 @@ fn read_class_file<F: Folders>(
     name: &[u8],
 ) -> Result<NamedFile, Failure>
     ensures named { IfOk result (λ file. file_name file ≡ name.now) }
-    ensures most { IfOk result IsReadUpToLimit }
     ensures read { IfOk result (IsFileIn (F.disk folders.old) folder.now) }
-    ensures err { IfErr result (IsUnread (path_in folder.now name.now)) }
+    ensures err { IfErr result (IsUnread (IsNoFile (F.disk folders.old) (path_in folder.now name.now))) }
     ensures disk { F.disk folders.new ≡ F.disk folders.old }
 {
     let bytes = read_file(alloc, folders, folder, name, CLASS_FILE_LIMIT)?;
@@ -199,16 +185,11 @@ pub fn read_class<F: Folders>(
 ) -> Result<Vec<u8>, Failure>
     ensures most { IfOk result (λ bytes. vec_len bytes ≤ 4194305) }
     ensures read { IfOk result (λ bytes. IsReadAt (F.disk folders.old) path.now 4194304 bytes.items) }
-    ensures err { IfErr result (IsUnread path.now) }
+    ensures err { IfErr result (IsUnread (IsNoFile (F.disk folders.old) path.now)) }
     ensures disk { F.disk folders.new ≡ F.disk folders.old }
 {
-    match bytes_at(alloc, folders, path.as_bytes(), CLASS_FILE_LIMIT) {
-        Ok(bytes) => Ok(bytes),
-        Err(error) => {
-            let name = Vec::from_slice(alloc, path.as_bytes())?;
-            Err(failure_at(name, &error))
-        }
-    }
+    let path = Vec::from_slice(alloc, path.as_bytes())?;
+    read_at(alloc, folders, path, CLASS_FILE_LIMIT)
 }
 
 /// The class files of these names.
@@ -219,9 +200,8 @@ fn read_class_files<F: Folders>(
     names: &[&[u8]],
 ) -> Result<Vec<NamedFile>, Failure>
     ensures named { IfOk result (λ files. map file_name files.items ≡ map bytes_of names.now) }
-    ensures most { IfOk result (λ files. All IsReadUpToLimit files.items) }
     ensures read { IfOk result (λ files. All (IsFileIn (F.disk folders.old) folder.now) files.items) }
-    ensures err { IfErr result (IsOneUnreadIn folder.now (map bytes_of names.now)) }
+    ensures err { IfErr result (IsUnread (IsFirstMissing (F.disk folders.old) folder.now (map bytes_of names.now))) }
     ensures disk { F.disk folders.new ≡ F.disk folders.old }
 {
     let mut class_files = Vec::new(alloc);
@@ -239,9 +219,8 @@ fn read_class_files_among<F: Folders>(
     folder: &str,
     names: &[&[u8]],
 ) -> Result<Vec<NamedFile>, Failure>
-    ensures ok { IfOk result (λ files. AreClassFilesOf (map bytes_of names.now) files.items) }
-    ensures read { IfOk result (λ files. All (IsFileIn (F.disk folders.old) folder.now) files.items) }
-    ensures err { IfErr result (IsNotRead folder.now) }
+    ensures ok { IfOk result (λ files. AreClassFilesOf (F.disk folders.old) folder.now (map bytes_of names.now) files.items) }
+    ensures err { IfErr result (IsUnread (IsNoClassFile (F.disk folders.old) folder.now (map bytes_of names.now))) }
     ensures disk { F.disk folders.new ≡ F.disk folders.old }
 {
     let class_names = class_file_names(alloc, names)?;
@@ -256,7 +235,7 @@ pub(crate) fn read_class_folder<F: Folders>(
     word: &str,
 ) -> Result<Vec<NamedFile>, Failure>
     ensures ok { IfOk result (λ files. AreClassFilesIn (F.disk folders.old) word.now files.items) }
-    ensures err { IfErr result (IsNotRead word.now) }
+    ensures err { IfErr result (IsUnread (IsNoClassFolder (F.disk folders.old) word.now)) }
     ensures disk { F.disk folders.new ≡ F.disk folders.old }
 {
     let listing = read_named(alloc, folders, word)?;
@@ -280,9 +259,9 @@ pub fn bytes_of_files<'a>(
 
 /// The bytes of the file `main`; one that is longer than the limit can't be read.
 fn read_main<F: Folders>(alloc: Global, folders: &mut F, folder: &str) -> Result<Vec<u8>, Failure>
-    ensures most { IfOk result (λ main. vec_len main ≤ 4194304) }
-    ensures read { IfOk result (λ main. IsReadAt (F.disk folders.old) (path_in folder.now (codes "main")) 4194304 main.items) }
-    ensures err { IfErr result (IsNotRead folder.now) }
+    ensures ok { IfOk result (λ main. IsMainIn (F.disk folders.old) folder.now main.items) }
+    ensures err { IfErr result (IsUnread (λ told.
+        (told ≡ path_in folder.now (codes "main")) × LacksFileUpTo 4194304 (F.disk folders.old) told)) }
     ensures disk { F.disk folders.new ≡ F.disk folders.old }
 {
     let main = read_file(alloc, folders, folder, b"main", CLASS_FILE_LIMIT)?;
@@ -304,7 +283,8 @@ fn read_input<F: Folders>(
         → IfOk result (λ input. IsReadAt (F.disk folders.old) (path_in folder.now (codes "input")) 16777216 input.items) }
     ensures absent { is_listed_name (codes "input") (map bytes_of names.now) ≡ false
         → IfOk result (λ input. input.items ≡ []) }
-    ensures err { IfErr result (IsNotRead folder.now) }
+    ensures listed { IsErr result → is_listed_name (codes "input") (map bytes_of names.now) ≡ true }
+    ensures err { IfErr result (IsUnread (IsNoFile (F.disk folders.old) (path_in folder.now (codes "input")))) }
     ensures disk { F.disk folders.new ≡ F.disk folders.old }
 {
     if is_listed_name(names, b"input") {
@@ -323,7 +303,7 @@ fn read_files<'a, F: Folders>(
 ) -> Result<Folder<'a>, Failure>
     ensures word { IfOk result (λ found. found.word.now ≡ word.now) }
     ensures files { IfOk result (IsFolderOf (F.disk folders.old) word.now (map bytes_of names.now)) }
-    ensures err { IfErr result (IsNotRead word.now) }
+    ensures err { IfErr result (IsUnread (IsNoFileOf (F.disk folders.old) word.now (map bytes_of names.now))) }
     ensures disk { F.disk folders.new ≡ F.disk folders.old }
 {
     let class_files = read_class_files_among(alloc, folders, word, names)?;
@@ -345,7 +325,7 @@ pub fn read_folder<'a, F: Folders>(
     word: &'a str,
 ) -> Result<Folder<'a>, Failure>
     ensures ok { IfOk result (IsFolderRead (F.disk folders.old) word.now) }
-    ensures err { IfErr result (IsNotRead word.now) }
+    ensures err { IfErr result (IsUnread (IsNoFolder (F.disk folders.old) word.now)) }
     ensures disk { F.disk folders.new ≡ F.disk folders.old }
 {
     let listing = read_named(alloc, folders, word)?;

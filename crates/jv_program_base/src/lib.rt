@@ -14,7 +14,7 @@ mod names;
 mod outcome;
 mod verdict;
 
-pub use escape::Escaped;
+pub use escape::{Escaped, escape_of};
 pub use failure::Failure;
 pub use file::read_past_limit;
 pub use folder::{Folder, NamedFile, bytes_of_files, read_class, read_folder};

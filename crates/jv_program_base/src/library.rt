@@ -2,7 +2,7 @@
 ghost use Rattle.std.specs.Prelude.{◌≡◌, ◌≢◌, IfErr, IfOk, None, map, option_map};
 ghost use Rattle.jv_limits.specs.Bytes.{bytes_of};
 ghost use Rattle.jv_limits.specs.FileLimits.{first_file_refusal};
-ghost use Rattle.jv_loader.specs.LibraryFault.{IsLibraryFault};
+ghost use Rattle.jv_loader.specs.LibraryFault.{IsLibraryFault, IsSomeLibrary};
 ghost use Rattle.jv_program_base.specs.Folder.{AreClassFilesIn, file_bytes, file_name};
 ghost use Rattle.jv_program_base.specs.Library.{AreLibraryFiles, IsLibraryFailure, fault_place, library_fault_name, path_at};
 ghost use Rattle.jv_program_base.specs.Inside.Reading.{IsRefusedIn};
@@ -100,6 +100,7 @@ fn system_of(
 ) -> Result<SystemFiles, Failure>
     ensures ok { IfOk result (λ system. system ≡ map file_bytes files.now) }
     ensures few { IfOk result (λ system. first_file_refusal system ≡ None) }
+    ensures library { IfOk result (λ system. IsSomeLibrary system) }
     ensures err { IfErr result (IsRefusedIn word.now files.now) }
 {
     let bytes = bytes_of_files(alloc, files)?;
@@ -109,7 +110,10 @@ fn system_of(
         return Err(Failure::LibraryRefused(name, reason));
     }
     match system_with_library(alloc, state, bytes.as_slice()) {
-        Ok(system) => Ok(system),
+        Ok(system) => {
+            system.is_library();
+            Ok(system)
+        }
         Err(LibraryFault::OutOfMemory) => Err(Failure::OutOfMemory),
         Err(fault) => Err(refusal(alloc, word, files, fault)?),
     }

@@ -1,8 +1,9 @@
 //! Files that are named, read, and checked.
 ghost use Rattle.std.specs.Prelude.{◌≡◌, IfErr, IfOk, length, map, option_map};
 ghost use Rattle.jv_limits.specs.Bytes.{bytes_of};
+ghost use Rattle.jv_program_base.specs.Unread.{IsUnread};
 ghost use Rattle.jv_program_check.specs.Check.{IsChecked};
-ghost use Rattle.jv_program_check.specs.Named.{AreFilesAt, IsCheckedAs, IsNamedFailure, IsOneUnread, IsReadFailure};
+ghost use Rattle.jv_program_check.specs.Named.{AreFilesAt, IsCheckedAs, IsFirstUnread, IsNamedFailure, IsReadFailure};
 
 use crate::checking::check_files;
 use jv_loader::SystemFiles;
@@ -19,7 +20,7 @@ pub fn read_classes<F: Folders>(
     ensures ok { IfOk result (λ files.
         AreFilesAt (F.disk folders.old) (map bytes_of names.now) (map (λ file. file.items) files.items)) }
     ensures count { IfOk result (λ files. length files.items ≡ length names.now) }
-    ensures err { IfErr result (IsOneUnread (map bytes_of names.now)) }
+    ensures err { IfErr result (IsUnread (IsFirstUnread (F.disk folders.old) (map bytes_of names.now))) }
 {
     let mut files = Vec::new(alloc);
     for name in names {
@@ -81,7 +82,7 @@ fn check_read(
 ///
 /// # Errors
 ///
-/// `Unreadable` with the name of a file that can't be read, `LibraryRefused` where there is no library in the folder for it,
+/// `Unreadable` with the name of the first file that can't be read, `LibraryRefused` where there is no library in the folder for it,
 /// `OutOfMemory` where the program had no memory to read them, and else what `check_files` says of the files.
 pub fn check_named<F: Folders>(
     alloc: Global,

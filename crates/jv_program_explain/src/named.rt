@@ -44,7 +44,7 @@ fn explain_read(
 ///
 /// # Errors
 ///
-/// `Unreadable` with the name of a file that can't be read, `LibraryRefused` where there is no library in the folder for it,
+/// `Unreadable` with the name of the first file that can't be read, `LibraryRefused` where there is no library in the folder for it,
 /// `OutOfMemory` where the program had no memory to read them, and else what `explain_files` says of the files.
 pub fn explain_named<F: Folders>(
     alloc: Global,

@@ -1,5 +1,5 @@
 -- What is said of folders that are read by their words.
-use Rattle.std.specs.Prelude.{◌≡◌, ◌≢◌, ◌⊎◌, ℕ, ◌<◌, ◌≤◌, ◌-◌, Bool, false, true, ◌||◌, List, ◌++◌, Option, Some, None, length, map, set, slice_get}
+use Rattle.std.specs.Prelude.{◌≡◌, ◌≢◌, ◌⊎◌, ℕ, ◌<◌, ◌≤◌, ◌-◌, Bool, false, true, ◌||◌, List, ◌++◌, Option, Some, None, length, map, set, slice_get, take}
 use Rattle.std.specs.Io.KnownBytes.{Consumes, IsAtEnd}
 use Rattle.jv_program_base.specs.declared.failure.Failure.{Failure}
 use Rattle.jv_program_base.specs.declared.failure.Failure.TheVariants.{Unreadable, LibraryRefused, TooManyFolders, NoGuest, OutOfMemory, StandardInput}
@@ -7,10 +7,10 @@ use Rattle.jv_program_base.specs.declared.folder.Folder.{Folder}
 use Rattle.jv_program_base.specs.declared.outcome.Outcome.{Outcome}
 use Rattle.jv_program_run.specs.declared.settings.RunSettings.{RunSettings}
 use Rattle.jv_program_base.specs.Disk.{Disk}
-use Rattle.jv_program_base.specs.Failure.{IsOneNotRead}
 use Rattle.jv_program_run.specs.Feeding.{is_no_guest}
 use Rattle.jv_program_base.specs.Folder.{IsFolderRead}
-use Rattle.jv_program_base.specs.Library.{AreLibraryFiles, IsLibraryFailure}
+use Rattle.jv_program_base.specs.Library.{AreLibraryFiles, IsLibraryFailure, IsLibraryRead}
+use Rattle.jv_program_base.specs.Unread.{IsNoFolder}
 use Rattle.jv_program_run.specs.Guests.{NamedGuest, named_guest}
 use Rattle.jv_program_run.specs.Outcome.{IsGuestsFailure, IsRunOutcome}
 
@@ -73,6 +73,15 @@ pub record IsRunAs (disk : Option Disk) (s : RunSettings) (library : Option (Lis
 
 -- ---- words of which there is no report
 
+-- of the folders of words the first that can't be read, or in which a file can't be: those before it were read
+pub record IsFirstUnread (disk : Option Disk) (words : List (List ℕ)) (told : List ℕ) : Type 0 where
+  pub before : List Folder
+  pub place : ℕ
+  pub read : AreFoldersOf disk (take place words) before
+  pub word : List ℕ
+  pub found : slice_get words place ≡ Some word
+  pub lacks : IsNoFolder disk word told
+
 -- all of these were read, and this is why there is no report on these guests
 pub record IsFailureOf (disk : Option Disk) (s : RunSettings) (library : Option (List ℕ)) (words : List (List ℕ))
     (before after : Option (List ℕ)) (failure : Failure) : Type 0 where
@@ -94,11 +103,14 @@ abbrev pub IsRunFailure :
     Option Disk → RunSettings → (library : Option (List ℕ)) → (words : List (List ℕ)) → (before after : Option (List ℕ)) → Failure → Type 0
 IsRunFailure disk s library words before after TooManyFolders = (64 < length words) × (after ≡ before)
 IsRunFailure disk s library words before after NoGuest = (length words ≤ 64) × (lacks_guest s (length words) ≡ true) × (after ≡ before)
-IsRunFailure disk s library words before after (Unreadable name) =
-    AreTaken s words × (IsLibraryFailure disk library (Unreadable name) ⊎ IsOneNotRead words (Unreadable name)) × (after ≡ before)
+IsRunFailure disk s library words before after (Unreadable told) =
+    AreTaken s words
+    × (IsLibraryFailure disk library (Unreadable told) ⊎ (IsLibraryRead disk library × IsFirstUnread disk words told.items))
+    × (after ≡ before)
 IsRunFailure disk s library words before after (LibraryRefused name reason) =
     AreTaken s words × IsLibraryFailure disk library (LibraryRefused name reason) × (after ≡ before)
 IsRunFailure disk s library words before after StandardInput =
-    (AreTaken s words × (reads_all s ≢ None)) ⊎ IsFailureOf disk s library words before after StandardInput
-IsRunFailure disk s library words before after OutOfMemory = AreTaken s words
+    (AreTaken s words × IsLibraryRead disk library × ((folders : List Folder) × AreFoldersOf disk words folders) × (reads_all s ≢ None))
+    ⊎ IsFailureOf disk s library words before after StandardInput
+IsRunFailure disk s library words before after OutOfMemory = AreTaken s words × (s.stdin ≡ None → s.raw ≡ None → after ≡ before)
 IsRunFailure disk s library words before after failure = IsFailureOf disk s library words before after failure

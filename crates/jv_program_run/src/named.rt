@@ -1,10 +1,10 @@
 //! Folders that are named, read and run.
 ghost use Rattle.std.specs.Prelude.{◌≡◌, ◌≤◌, false, IfErr, IfOk, length, map, option_map};
 ghost use Rattle.jv_limits.specs.Bytes.{bytes_of};
-ghost use Rattle.jv_program_base.specs.Failure.{IsOneNotRead};
+ghost use Rattle.jv_program_base.specs.Unread.{IsUnread};
 ghost use Rattle.jv_program_run.specs.Feeding.{is_no_guest};
 ghost use Rattle.jv_program_run.specs.Guests.{named_guest};
-ghost use Rattle.jv_program_run.specs.Named.{AreFoldersOf, AreTaken, IsRunAs, IsRunFailure, lacks_guest};
+ghost use Rattle.jv_program_run.specs.Named.{AreFoldersOf, AreTaken, IsFirstUnread, IsRunAs, IsRunFailure, lacks_guest};
 ghost use Rattle.jv_program_run.specs.Outcome.{IsGuestsFailure, IsRunOutcome};
 
 use crate::input::read_input;
@@ -27,7 +27,7 @@ fn read_folders<'a, F: Folders>(
 ) -> Result<Vec<Folder<'a>>, Failure>
     ensures ok { IfOk result (λ read. AreFoldersOf (F.disk folders.old) (map bytes_of words.now) read.items) }
     ensures count { IfOk result (λ read. length read.items ≡ length words.now) }
-    ensures err { IfErr result (IsOneNotRead (map bytes_of words.now)) }
+    ensures err { IfErr result (IsUnread (IsFirstUnread (F.disk folders.old) (map bytes_of words.now))) }
 {
     let mut read = Vec::new(alloc);
     for word in words {

@@ -1,16 +1,16 @@
 -- Files of a folder that were not read.
-use Rattle.std.specs.Prelude.{◌≡◌, ℕ, ⊤, List, Some, slice_get, string_bytes}
+use Rattle.std.specs.Prelude.{◌⊎◌, ℕ, ⊤, List, Option, string_bytes}
 use Rattle.jv_program_base.specs.declared.failure.Failure.{Failure}
 use Rattle.jv_program_base.specs.declared.failure.Failure.TheVariants.{LibraryRefused, OutOfMemory}
 use Rattle.jv_program_base.specs.declared.folder.NamedFile.{NamedFile}
-use Rattle.jv_program_base.specs.Failure.{IsUnread}
-use Rattle.jv_program_base.specs.Folder.{path_in}
+use Rattle.jv_program_base.specs.Disk.{Disk}
 use Rattle.jv_program_base.specs.Library.{AreNoLibrary}
+use Rattle.jv_program_base.specs.Unread.{IsNoClassFile, IsNoInput, IsNoMain}
 
--- why the files of these names in the folder of a word were not all read
-abbrev pub IsOneUnreadIn : (word : List ℕ) → (names : List (List ℕ)) → Failure → Type 0
-IsOneUnreadIn word names failure =
-    (place : ℕ) × (name : List ℕ) × (slice_get names place ≡ Some name) × IsUnread (path_in word name) failure
+-- a file of a guest can't be read, in a folder with these names
+abbrev pub IsNoFileOf : Option Disk → (word : List ℕ) → (names : List (List ℕ)) → (told : List ℕ) → Type 0
+IsNoFileOf disk word names told =
+    IsNoClassFile disk word names told ⊎ (IsNoMain disk word names told ⊎ IsNoInput disk word names told)
 
 -- why the files of a folder were not taken as a library
 abbrev pub IsRefusedIn : (word : List ℕ) → (files : List NamedFile) → Failure → Type 0

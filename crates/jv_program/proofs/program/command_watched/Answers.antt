@@ -23,7 +23,7 @@ returns-clause-ended g c =
           subst (λ (r : Result Outcome Stop). IsToldAfter sure mid new e1 e2 r) (sym w.in-Err.is)
           (told_of sure mid new e1 e2 (g.E.Sink.contents w.tell.new.err) _ w.tell.result (ap g.E.Sink.contents w.err-is)
           (λ not. ap g.O.Sink.contents (w.out-is ∙ w.tell.ensures.quiet not)) (λ asked. ap g.E.Sink.contents (w.tell.ensures.calm asked))
-          w.tell.ensures.failure w.tell.ensures.output w.tell.ensures.sure w.tell.ensures.front)
+          w.tell.ensures.failure w.tell.ensures.output w.tell.ensures.sure)
       | in_default w ↦ subst (λ (r : Result Outcome Stop). IsToldAfter sure mid new e1 e2 r) (sym w.in_default.is)
           (ap g.O.Sink.contents w.out-is, ap g.E.Sink.contents w.err-is)
     ] in

@@ -1,9 +1,10 @@
 use Rattle.std.proofs.Common.{◌≡◌, [], ◌∷◌, ◌++◌, arith, map, ◌∙◌}
 use Rattle.std.proofs.lemmas.Grind.{common_steps}
 use Rattle.jv_limits.specs.Bytes.{bytes_of}
-use Rattle.jv_program_base.proofs.Places.{in_place}
-use Rattle.jv_program_check.specs.Named.{IsOneUnread}
-use Rattle.jv_program_check.proofs.NotRead.{one_unread, passed_on}
+use Rattle.jv_program_base.specs.Unread.{IsUnread}
+use Rattle.jv_program_base.proofs.Places.{in_place, passed_on}
+use Rattle.jv_program_check.specs.Named.{IsFirstUnread}
+use Rattle.jv_program_check.proofs.NotRead.{first_unread}
 use Rattle.jv_program_check.proofs.Read.{next_file}
 use Rattle.jv_program_check.proofs.named.read_classes.Goals as goal
 
@@ -22,6 +23,10 @@ loop-name-preserved g c =
 -- the file of the name at this place was not read
 pub returns-in_err-bytes-clause-err : goal.returns-in_err-bytes-clause-err
 returns-in_err-bytes-clause-err g c =
+    let disk = g.F.Folders.disk c.args.folders.now in
     let names = c.args.names.now in
-    passed_on c.from_residual.result c.in_err-bytes.field-0.0 (IsOneUnread (map bytes_of names)) c.from_residual.ensures.1
-    (one_unread names c.loop-name.name-index _ c.in_err-bytes.field-0.0 c.loop-name-test.true c.in_err-bytes.ensures.err)
+    let k = c.loop-name.name-index in
+    let failure = c.in_err-bytes.field-0.0 in
+    passed_on c.from_residual.result failure (IsUnread (IsFirstUnread disk (map bytes_of names))) c.from_residual.ensures.1
+    (first_unread disk (g.F.Folders.disk c.loop-name.folders) names k _ c.loop-name.files.items failure c.loop-name.invariant.disk
+    (in_place names k _ c.loop-name-test.true) c.loop-name.invariant.read (c.in_err-bytes.ensures {u = tt}).err)

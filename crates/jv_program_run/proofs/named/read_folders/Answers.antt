@@ -2,10 +2,10 @@ use Rattle.std.proofs.lemmas.Grind.{common_steps}
 use Rattle.std.proofs.Common.{◌≡◌, ◌∷◌, ◌++◌, [], arith, map, ◌∙◌}
 use Rattle.jv_program_base.specs.declared.failure.Failure.TheVariants.{OutOfMemory}
 use Rattle.jv_limits.specs.Bytes.{bytes_of}
-use Rattle.jv_program_base.specs.Failure.{IsOneNotRead}
-use Rattle.jv_program_base.proofs.NotRead.{one_not_read, short_for_folder}
+use Rattle.jv_program_base.specs.Unread.{IsUnread}
 use Rattle.jv_program_base.proofs.Places.{in_place, passed_on}
-use Rattle.jv_program_run.proofs.Read.{next_folder}
+use Rattle.jv_program_run.specs.Named.{IsFirstUnread}
+use Rattle.jv_program_run.proofs.Read.{first_unread, next_folder}
 use Rattle.jv_program_run.proofs.named.read_folders.Goals as goal
 
 pub loop-word-preserved : goal.loop-word-preserved
@@ -21,15 +21,16 @@ loop-word-preserved g c =
 
 pub returns-in_err-folder-clause-err : goal.returns-in_err-folder-clause-err
 returns-in_err-folder-clause-err g c =
+    let disk = g.F.Folders.disk c.args.folders.now in
     let words = c.args.words.now in
     let k = c.loop-word.word-index in
     let failure = c.in_err-folder.field-0.0 in
-    passed_on c.from_residual.result failure (IsOneNotRead (map bytes_of words)) c.from_residual.ensures.1
-    (one_not_read words k _ failure (in_place words k _ c.loop-word-test.true) (c.in_err-folder.ensures {u = tt}).err)
+    passed_on c.from_residual.result failure (IsUnread (IsFirstUnread disk (map bytes_of words))) c.from_residual.ensures.1
+    (first_unread disk (g.F.Folders.disk c.loop-word.folders) words k _ c.loop-word.read.items failure c.loop-word.invariant.disk
+    (in_place words k _ c.loop-word-test.true) c.loop-word.invariant.read (c.in_err-folder.ensures {u = tt}).err)
 
 pub returns-in_err-map_err-clause-err : goal.returns-in_err-map_err-clause-err
 returns-in_err-map_err-clause-err g c =
-    let words = c.args.words.now in
-    let k = c.loop-word.word-index in
-    passed_on c.from_residual-in_err-map_err.result OutOfMemory (IsOneNotRead (map bytes_of words)) c.from_residual-in_err-map_err.ensures.1
-    (short_for_folder words k c.loop-word-test.true)
+    let disk = g.F.Folders.disk c.args.folders.now in
+    passed_on c.from_residual-in_err-map_err.result OutOfMemory (IsUnread (IsFirstUnread disk (map bytes_of c.args.words.now)))
+    c.from_residual-in_err-map_err.ensures.1 tt
