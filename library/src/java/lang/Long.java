@@ -236,19 +236,21 @@ public final class Long extends Number implements Comparable<Long> {
         boolean signed = text.charAt(0) == '-' || text.charAt(0) == '+';
         String sign = text.charAt(0) == '-' ? "-" : "";
         String rest = signed ? text.substring(1) : text;
+        int radix = 10;
+        if (rest.startsWith("0x") || rest.startsWith("0X")) {
+            rest = rest.substring(2);
+            radix = 16;
+        } else if (rest.startsWith("#")) {
+            rest = rest.substring(1);
+            radix = 16;
+        } else if (rest.startsWith("0") && rest.length() > 1) {
+            rest = rest.substring(1);
+            radix = 8;
+        }
         if (rest.startsWith("-") || rest.startsWith("+")) {
             throw new NumberFormatException("Sign character in wrong position");
         }
-        if (rest.startsWith("0x") || rest.startsWith("0X")) {
-            return valueOf(sign.concat(rest.substring(2)), 16);
-        }
-        if (rest.startsWith("#")) {
-            return valueOf(sign.concat(rest.substring(1)), 16);
-        }
-        if (rest.startsWith("0") && rest.length() > 1) {
-            return valueOf(sign.concat(rest.substring(1)), 8);
-        }
-        return valueOf(sign.concat(rest), 10);
+        return valueOf(sign.concat(rest), radix);
     }
 
     public static long rotateRight(long l, int by) {

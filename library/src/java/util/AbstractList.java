@@ -37,7 +37,7 @@ public abstract class AbstractList<E> extends AbstractCollection<E> implements L
 
     public int lastIndexOf(Object o) {
         for (int i = size() - 1; i >= 0; i--) {
-            E e = get(i);
+            E e = item(i);
             if (o == null ? e == null : o.equals(e)) {
                 return i;
             }
@@ -67,6 +67,11 @@ public abstract class AbstractList<E> extends AbstractCollection<E> implements L
             walk.next();
             walk.remove();
         }
+    }
+
+    /** An item, also where a program's own class has another `get`. */
+    E item(int index) {
+        return get(index);
     }
 
     /** The size, also where a part can't be used any more. */
@@ -153,7 +158,7 @@ public abstract class AbstractList<E> extends AbstractCollection<E> implements L
             }
             last = at;
             at++;
-            return get(last);
+            return item(last);
         }
 
         public void remove() {
@@ -178,7 +183,7 @@ public abstract class AbstractList<E> extends AbstractCollection<E> implements L
             }
             at--;
             last = at;
-            return get(at);
+            return item(at);
         }
 
         public int nextIndex() {
@@ -255,7 +260,7 @@ public abstract class AbstractList<E> extends AbstractCollection<E> implements L
 
         public E get(int index) {
             check(index);
-            return of.get(from + index);
+            return of.item(from + index);
         }
 
         public E set(int index, E e) {

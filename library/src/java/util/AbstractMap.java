@@ -68,6 +68,16 @@ public abstract class AbstractMap<K, V> implements Map<K, V> {
         entrySet().clear();
     }
 
+    /** Along the entries, none of which is handed out or set. */
+    Iterator<Map.Entry<K, V>> walk() {
+        return entrySet().iterator();
+    }
+
+    /** Removes a key, also where a program's own class has another `remove`. */
+    V take(Object key) {
+        return remove(key);
+    }
+
     public Set<K> keySet() {
         return new Maps.Keys<K, V>(this);
     }
@@ -104,12 +114,10 @@ public abstract class AbstractMap<K, V> implements Map<K, V> {
     public String toString() {
         StringBuilder out = new StringBuilder();
         out.append('{');
-        boolean first = true;
         for (Map.Entry<K, V> e : entrySet()) {
-            if (!first) {
+            if (out.length() > 1) {
                 out.append(", ");
             }
-            first = false;
             K key = e.getKey();
             V value = e.getValue();
             out.append(key == this ? "(this Map)" : String.valueOf(key)).append('=')

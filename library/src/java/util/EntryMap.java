@@ -8,6 +8,11 @@ abstract class EntryMap<K, V> extends AbstractMap<K, V> {
     /** The entry of a key, or null. */
     abstract Map.Entry<K, V> entry(Object key);
 
+    /** The same, where a map without null is asked for one. */
+    Map.Entry<K, V> entryOrNone(Object key) {
+        return entry(key);
+    }
+
     /** All entries, in the map's order; the walk removes. */
     abstract Iterator<Map.Entry<K, V>> entries();
 
@@ -61,12 +66,48 @@ abstract class EntryMap<K, V> extends AbstractMap<K, V> {
             return value;
         }
         V made = join.apply(e.getValue(), value);
+        return settled(e, made);
+    }
+
+    private V settled(Map.Entry<K, V> e, V made) {
         if (made == null) {
-            remove(key);
+            take(e.getKey());
         } else {
             e.setValue(made);
         }
         return made;
+    }
+
+    public V computeIfPresent(K key, BiFunction<? super K, ? super V, ? extends V> change) {
+        Map.Entry<K, V> e = entry(key);
+        return e == null || e.getValue() == null ? null : settled(e, change.apply(key, e.getValue()));
+    }
+
+    public V replace(K key, V value) {
+        Map.Entry<K, V> e = entry(key);
+        return e == null ? null : e.setValue(value);
+    }
+
+    public boolean replace(K key, V old, V value) {
+        Map.Entry<K, V> e = entry(key);
+        if (e == null || !Objects.equals(e.getValue(), old)) {
+            return false;
+        }
+        e.setValue(value);
+        return true;
+    }
+
+    public boolean remove(Object key, Object value) {
+        Map.Entry<K, V> e = entry(key);
+        if (e == null || !Objects.equals(e.getValue(), value)) {
+            return false;
+        }
+        take(key);
+        return true;
+    }
+
+    Iterator<Map.Entry<K, V>> walk() {
+        return entries();
     }
 
     public Set<Map.Entry<K, V>> entrySet() {
@@ -74,6 +115,9 @@ abstract class EntryMap<K, V> extends AbstractMap<K, V> {
     }
 
     private final class Entries extends AbstractSet<Map.Entry<K, V>> {
+        Entries() {
+        }
+
         public int size() {
             return EntryMap.this.size();
         }
@@ -82,7 +126,7 @@ abstract class EntryMap<K, V> extends AbstractMap<K, V> {
             if (!(o instanceof Map.Entry)) {
                 return false;
             }
-            Map.Entry<K, V> e = entry(((Map.Entry<?, ?>) o).getKey());
+            Map.Entry<K, V> e = entryOrNone(((Map.Entry<?, ?>) o).getKey());
             return e != null && e.equals(o);
         }
 
@@ -90,7 +134,7 @@ abstract class EntryMap<K, V> extends AbstractMap<K, V> {
             if (!contains(o)) {
                 return false;
             }
-            EntryMap.this.remove(((Map.Entry<?, ?>) o).getKey());
+            take(((Map.Entry<?, ?>) o).getKey());
             return true;
         }
 

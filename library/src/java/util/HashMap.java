@@ -8,7 +8,7 @@ import java.util.function.Function;
  * places or more: the JDK makes a tree of those.
  */
 public class HashMap<K, V> extends EntryMap<K, V> implements Map<K, V>, Cloneable, java.io.Serializable {
-    private static final int MOST = 1 << 30;
+    static final int MOST = 1 << 30;
 
     private Node<K, V>[] table;
     private int count;
@@ -37,10 +37,10 @@ public class HashMap<K, V> extends EntryMap<K, V> implements Map<K, V>, Cloneabl
     }
 
     public HashMap(Map<? extends K, ? extends V> map) {
-        putAll(map);
+        putEach(map);
     }
 
-    private static int powerFor(int n) {
+    static int powerFor(int n) {
         int p = 1;
         while (p < n && p < MOST) {
             p <<= 1;
@@ -87,13 +87,21 @@ public class HashMap<K, V> extends EntryMap<K, V> implements Map<K, V>, Cloneabl
     // ---- changes
 
     public V put(K key, V value) {
+        return put(key, value, true);
+    }
+
+    public V putIfAbsent(K key, V value) {
+        return put(key, value, false);
+    }
+
+    private V put(K key, V value, boolean always) {
         int hash = hash(key);
         if (table == null) {
             grow(limit == 0 ? 16 : limit);
         }
         Node<K, V> old = at(hash, key);
         if (old != null) {
-            return old.setValue(value);
+            return always || old.value == null ? old.setValue(value) : old.value;
         }
         spread(append(table, made(hash, key, value)), 8);
         changes++;
@@ -106,6 +114,10 @@ public class HashMap<K, V> extends EntryMap<K, V> implements Map<K, V>, Cloneabl
     }
 
     public void putAll(Map<? extends K, ? extends V> map) {
+        putEach(map);
+    }
+
+    final void putEach(Map<? extends K, ? extends V> map) {
         int n = map.size();
         if (n > 0 && table == null) {
             if (n + n / 3 + 1 > limit) {
@@ -116,11 +128,13 @@ public class HashMap<K, V> extends EntryMap<K, V> implements Map<K, V>, Cloneabl
                 grow(2 * table.length);
             }
         }
-        super.putAll(map);
+        for (Map.Entry<? extends K, ? extends V> e : map.entrySet()) {
+            put(e.getKey(), e.getValue(), true);
+        }
     }
 
     /** Says how many nodes stand before the new one in its place. */
-    private static <K, V> int append(Node<K, V>[] table, Node<K, V> n) {
+    static <K, V> int append(Node<K, V>[] table, Node<K, V> n) {
         int at = n.hash & table.length - 1;
         if (table[at] == null) {
             table[at] = n;
@@ -216,7 +230,7 @@ public class HashMap<K, V> extends EntryMap<K, V> implements Map<K, V>, Cloneabl
         if (n != null && value != null) {
             n.value = value;
         } else if (n != null) {
-            remove(key);
+            take(key);
         } else if (value != null) {
             putInFront(key, value);
         }
@@ -241,15 +255,26 @@ public class HashMap<K, V> extends EntryMap<K, V> implements Map<K, V>, Cloneabl
     }
 
     public V remove(Object key) {
+        return take(key);
+    }
+
+    V take(Object key) {
         if (table == null) {
             return null;
         }
-        int hash = hash(key);
-        Node<K, V> n = at(hash, key);
+        Node<K, V> n = at(hash(key), key);
         if (n == null) {
             return null;
         }
-        int place = hash & table.length - 1;
+        cut(table, n);
+        changes++;
+        count--;
+        gone(n);
+        return n.value;
+    }
+
+    static <K, V> void cut(Node<K, V>[] table, Node<K, V> n) {
+        int place = n.hash & table.length - 1;
         if (table[place] == n) {
             table[place] = n.next;
         } else {
@@ -259,10 +284,6 @@ public class HashMap<K, V> extends EntryMap<K, V> implements Map<K, V>, Cloneabl
             }
             before.next = n.next;
         }
-        changes++;
-        count--;
-        gone(n);
-        return n.value;
     }
 
     public void clear() {
@@ -333,7 +354,7 @@ public class HashMap<K, V> extends EntryMap<K, V> implements Map<K, V>, Cloneabl
             if (changes != expected) {
                 throw new ConcurrentModificationException();
             }
-            HashMap.this.remove(given.key);
+            take(given.key);
             given = null;
             expected = changes;
         }

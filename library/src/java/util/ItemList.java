@@ -63,6 +63,10 @@ abstract class ItemList<E> extends AbstractList<E> implements RandomAccess, Clon
     }
 
     public E get(int index) {
+        return item(index);
+    }
+
+    E item(int index) {
         check(index);
         return (E) items[index];
     }

@@ -4,6 +4,8 @@ package java.util;
 public class LinkedHashMap<K, V> extends HashMap<K, V> implements Map<K, V> {
     private Link<K, V> first;
     private Link<K, V> last;
+    /** Whether none goes, as while the map is made of another one. */
+    private boolean keeps;
 
     private static final class Link<K, V> extends HashMap.Node<K, V> {
         Link<K, V> before;
@@ -22,7 +24,9 @@ public class LinkedHashMap<K, V> extends HashMap<K, V> implements Map<K, V> {
     }
 
     public LinkedHashMap(Map<? extends K, ? extends V> map) {
-        putAll(map);
+        keeps = true;
+        putEach(map);
+        keeps = false;
     }
 
     /** Tells whether the entry that came first goes, now that another has come. */
@@ -43,8 +47,8 @@ public class LinkedHashMap<K, V> extends HashMap<K, V> implements Map<K, V> {
     }
 
     void came() {
-        if (first != null && removeEldestEntry(first)) {
-            remove(first.key);
+        if (!keeps && first != null && removeEldestEntry(first)) {
+            take(first.key);
         }
     }
 
@@ -80,6 +84,9 @@ public class LinkedHashMap<K, V> extends HashMap<K, V> implements Map<K, V> {
         private Link<K, V> given;
         private int expected = changes();
 
+        Walk() {
+        }
+
         private void check() {
             if (changes() != expected) {
                 throw new ConcurrentModificationException();
@@ -105,7 +112,7 @@ public class LinkedHashMap<K, V> extends HashMap<K, V> implements Map<K, V> {
                 throw new IllegalStateException();
             }
             check();
-            LinkedHashMap.this.remove(given.key);
+            take(given.key);
             given = null;
             expected = changes();
         }

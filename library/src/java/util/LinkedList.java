@@ -9,6 +9,9 @@ public class LinkedList<E> extends AbstractSequentialList<E> implements Deque<E>
         E item;
         Node<E> previous;
         Node<E> next;
+
+        Node() {
+        }
     }
 
     public LinkedList() {

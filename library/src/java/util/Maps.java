@@ -44,9 +44,9 @@ final class Maps {
 
     /** The keys of a map, by its entries. */
     static class Keys<K, V> extends AbstractSet<K> {
-        private final Map<K, V> map;
+        private final AbstractMap<K, V> map;
 
-        Keys(Map<K, V> map) {
+        Keys(AbstractMap<K, V> map) {
             this.map = map;
         }
 
@@ -59,9 +59,9 @@ final class Maps {
         }
 
         public boolean remove(Object o) {
-            boolean there = map.containsKey(o);
-            map.remove(o);
-            return there;
+            int before = map.size();
+            map.take(o);
+            return map.size() < before;
         }
 
         public void clear() {
@@ -69,7 +69,7 @@ final class Maps {
         }
 
         public Iterator<K> iterator() {
-            return new KeyWalk<K, V>(map.entrySet().iterator());
+            return new KeyWalk<K, V>(map.walk());
         }
     }
 
@@ -95,9 +95,9 @@ final class Maps {
 
     /** The values of a map, by its entries. */
     static final class Values<K, V> extends AbstractCollection<V> {
-        private final Map<K, V> map;
+        private final AbstractMap<K, V> map;
 
-        Values(Map<K, V> map) {
+        Values(AbstractMap<K, V> map) {
             this.map = map;
         }
 
@@ -114,7 +114,7 @@ final class Maps {
         }
 
         public Iterator<V> iterator() {
-            return new ValueWalk<K, V>(map.entrySet().iterator());
+            return new ValueWalk<K, V>(map.walk());
         }
     }
 

@@ -24,7 +24,7 @@ public class TreeSet<E> extends AbstractSet<E> implements NavigableSet<E>, Clone
         addAll(set);
     }
 
-    private TreeSet(NavigableMap<E, ?> map, boolean own) {
+    TreeSet(NavigableMap<E, ?> map, boolean own) {
         this.map = (NavigableMap<E, Object>) map;
     }
 

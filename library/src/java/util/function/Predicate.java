@@ -1,39 +1,26 @@
 package java.util.function;
 
+import java.util.Objects;
+
 public interface Predicate<T> {
     boolean test(T t);
 
     default Predicate<T> and(Predicate<? super T> other) {
-        final Predicate<T> one = this;
-        return new Predicate<T>() {
-            public boolean test(T t) {
-                return one.test(t) && other.test(t);
-            }
-        };
+        return new Test<T>(this, false, Objects.requireNonNull(other));
     }
 
     default Predicate<T> or(Predicate<? super T> other) {
-        final Predicate<T> one = this;
-        return new Predicate<T>() {
-            public boolean test(T t) {
-                return one.test(t) || other.test(t);
-            }
-        };
+        return new Test<T>(this, true, Objects.requireNonNull(other));
     }
 
     default Predicate<T> negate() {
-        final Predicate<T> one = this;
-        return new Predicate<T>() {
-            public boolean test(T t) {
-                return !one.test(t);
-            }
-        };
+        return new Test<T>(this, false, null);
     }
 
     static <T> Predicate<T> isEqual(Object other) {
         return new Predicate<T>() {
             public boolean test(T t) {
-                return java.util.Objects.equals(other, t);
+                return Objects.equals(other, t);
             }
         };
     }
