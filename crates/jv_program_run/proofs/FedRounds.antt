@@ -1,17 +1,16 @@
 -- Rounds of turns, before each of which a guest is fed what is read.
-use Rattle.std.proofs.Common.{◌≡◌, ℕ, suc, ◌+◌, ◌-◌, ◌*◌, ◌<◌, ◌≤◌, ◌^◌, Bool, true, false, cond, List, length, Option, Some, None, refl, sym, ap, subst, ◌∙◌, inl, inr, arith}
+use Rattle.std.proofs.Common.{◌≡◌, ℕ, suc, ◌+◌, ◌-◌, ◌*◌, ◌<◌, ◌≤◌, ◌^◌, Bool, true, false, cond, List, Option, Some, None, refl, sym, ap, subst, ◌∙◌, inl, inr, arith}
 use Rattle.std.specs.Prelude.{IsSome, slice_get}
-use Rattle.std.specs.Io.KnownBytes.{Consumes}
 use Rattle.std.proofs.lemmas.Bool.{cases_lt, le-ltb}
 use Rattle.jv_meaning_machine.specs.Laws.Shown.{ShowsOneThing}
 use Rattle.jv_meaning_machine.specs.Laws.Feeds.{FeedShowsLater}
 use Rattle.jv_limits.specs.declared.fault.FeedFault.TheVariants as faults
 use Rattle.jv_host.specs.Host.{Admission, input_bytes}
 use Rattle.jv_host.specs.Calls.{IsRun, NoneRuns, SomeRuns}
-use Rattle.jv_host.specs.Limits.{feed_refusal, feed_refusal_of}
+use Rattle.jv_host.specs.Limits.{feed_refusal_of}
 use Rattle.jv_program_base.specs.declared.failure.Failure.{Failure}
 use Rattle.jv_program_base.specs.declared.failure.Failure.TheVariants.{Unreadable, StandardInput, LibraryRefused, Refused, FeedTooLong, TooManyFolders, NoGuest, HostMemory, OutOfMemory}
-use Rattle.jv_program_run.specs.Inside.Turns.{AreAtStart, IsFedNext, IsFedRun, IsFeedFailure, IsNextFailure, OnlyFed, PlayedSince, ReadSoFar, SomeWent}
+use Rattle.jv_program_run.specs.Inside.Turns.{AreAtStart, IsFedNext, IsFedRun, IsFeedFailure, IsNextDue, IsNextFailure, OnlyFed, PlayedSince, ReadSoFar, SomeWent}
 use Rattle.jv_program_run.proofs.AllTurns.{feed_all, only_at_start, only_fed, only_once, run_once, start_all}
 use Rattle.jv_program_run.proofs.Needed.{is_round, some_run, some_went, went_on}
 use Rattle.jv_program_run.proofs.WhatWasRead.{read_at_start, read_next, read_none, read_once}
@@ -93,26 +92,19 @@ too_many a count refused =
 
 module _ (n most r id : ℕ) (old mid : List Admission) (b0 b1 b2 : Option (List ℕ)) (more : Bool) (is_more : more ≡ true) (less : r < most) (runs : SomeRuns mid)
     (before : FedSoFar n r r id old mid b0 b1 more) where
-  fed_too_much : (bytes : List ℕ) → length bytes ≤ 4096 → Consumes b1 b2 bytes → feed_refusal mid id bytes ≡ Some faults.InputTooLong
-      → IsFeedFailure n most id old b0 b2 FeedTooLong
-  fed_too_much bytes few read refused = record {
+  due : IsNextDue n most id old mid b0 b1
+  due = record {
     rounds = r;
     few = less;
-    host = mid;
     played = before.played;
     only = before.only;
-    between = b1;
     read = subst (λ (b : Bool). ReadSoFar id r mid b0 b1 b) is_more before.read;
     runs = runs;
-    last = bytes;
-    piece = few;
-    came = read;
-    refused = refused;
   }
 
   pub not_fed : (failure : Failure) → IsNextFailure id mid b1 b2 failure → IsFeedFailure n most id old b0 b2 failure
-  not_fed StandardInput h = tt
-  not_fed FeedTooLong h = fed_too_much h.0 h.1 h.2 h.3
+  not_fed StandardInput h = (mid, b1, due, h)
+  not_fed FeedTooLong h = record { host = mid; now = b1; due = due; last = h.0; piece = h.1; came = h.2; refused = h.3 }
   not_fed HostMemory h = tt
   not_fed (Unreadable name) h = absurd h
   not_fed (LibraryRefused name reason) h = absurd h

@@ -15,8 +15,8 @@ use Rattle.jv_program_base.specs.declared.failure.Failure.TheVariants.{Unreadabl
 use Rattle.jv_program_run.specs.declared.settings.RunSettings.{RunSettings}
 use Rattle.jv_program_run.specs.Feeding.{AreFeedsFrom, feeds_to, is_no_guest}
 use Rattle.jv_program_run.specs.Guests.{NamedGuest}
-use Rattle.jv_program_run.specs.Outcome.{AreAllowed, IsFeedingFailure, IsFirstWithin, IsGuestsFailure}
-use Rattle.jv_program_run.specs.Inside.Play.{HasRun, IsAdmitFailure, at_start}
+use Rattle.jv_program_run.specs.Outcome.{AreAllowed, IsFirstWithin, IsGuestsFailure}
+use Rattle.jv_program_run.specs.Inside.Play.{HasRun, IsAdmitFailure, IsFeedingFailure, at_start}
 use Rattle.jv_program_run.specs.Inside.Turns.{AreAtStart, IsFedRun, NoneFed, OnlyFed, PlayedSince, ReadSoFar, SomeWent}
 use Rattle.jv_program_base.proofs.Places.{some_same, within}
 

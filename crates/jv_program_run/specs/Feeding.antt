@@ -8,7 +8,7 @@ use Rattle.jv_meaning_machine.specs.Observation.{Observed, Shows}
 
 -- ---- whom it comes to
 
--- the number of a guest, where there is one, is of none of so many guests, numbered from 1
+-- a number is given, and none of so many guests, numbered from 1, has it
 abbrev pub is_no_guest : Option ℕ → (guests : ℕ) → Bool
 is_no_guest None guests = false
 is_no_guest (Some number) guests = number == 0 || nat_lt guests number

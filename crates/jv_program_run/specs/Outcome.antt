@@ -1,6 +1,6 @@
 -- What the program says of the guests of folders (own).
 use Rattle.std.specs.Prelude.{◌≡◌, ◌≢◌, ⊤, Bool, ◌||◌, IsTrue, Option, Some, None, ℕ, zero, suc, ◌+◌, ◌-◌, ◌*◌, ◌<◌, ◌≤◌, List, [], length, slice_get, string_bytes}
-use Rattle.std.specs.Io.KnownBytes.{Consumes}
+use Rattle.std.specs.Io.KnownBytes.{Consumes, Keeps}
 use Rattle.jv_meaning_machine.specs.State.End.{Running}
 use Rattle.jv_meaning_machine.specs.Start.{Budget}
 use Rattle.jv_meaning_machine.specs.Alone.{GuestFiles, Feed}
@@ -10,7 +10,7 @@ use Rattle.jv_limits.specs.declared.fault.AdmitFault.{AdmitFault}
 use Rattle.jv_limits.specs.declared.fault.AdmitFault.TheVariants as refusals
 use Rattle.jv_host.specs.Limits.{IsRefused, LibraryStands, first_refusal}
 use Rattle.jv_program_base.specs.declared.failure.Failure.{Failure}
-use Rattle.jv_program_base.specs.declared.failure.Failure.TheVariants.{Unreadable, StandardInput, LibraryRefused, Refused, FeedTooLong, TooManyFolders, NoGuest, HostMemory, OutOfMemory}
+use Rattle.jv_program_base.specs.declared.failure.Failure.TheVariants.{StandardInput, Refused, FeedTooLong, HostMemory, OutOfMemory}
 use Rattle.jv_program_base.specs.declared.outcome.Outcome.{Outcome}
 use Rattle.jv_program_base.specs.Outcome.{raw_bytes}
 use Rattle.jv_program_run.specs.declared.settings.RunSettings.{RunSettings}
@@ -100,44 +100,45 @@ IsOneRunning s guests feeds rounds =
     (place : ℕ) × (named : NamedGuest) × (slice_get guests place ≡ Some named) × (o : Observed)
     × IsRunAlone named.guest (budget_of s.budget) (feeds_to s.stdin feeds place) s.quantum rounds o × (o.end ≡ Running)
 
--- More came for the guest that is fed than it may have: guests had some rounds, before each of which a piece was read for it, and before
--- one more, as some guest still took steps, a piece with which it would have more than 16,777,216 bytes of input.
+-- A piece is due for the guest that is fed: so many rounds are over, before each of which one came, and some guest still takes steps.
+pub record IsPieceDue (s : RunSettings) (guests : List NamedGuest) (feeds : List Feed) (before now : Option (List ℕ)) : Type 0 where
+  pub few : length feeds < s.rounds
+  pub read : AreRead (length feeds) feeds before now
+  pub running : IsOneRunning s guests feeds (length feeds)
+
+-- it could not be read
+pub record IsUnreadPiece (s : RunSettings) (guests : List NamedGuest) (before after : Option (List ℕ)) : Type 0 where
+  pub is_fed : s.stdin ≢ None
+  pub feeds : List Feed
+  pub now : Option (List ℕ)
+  pub due : IsPieceDue s guests feeds before now
+  pub kept : Keeps now after
+
+-- with it the guest would have more than the 16,777,216 bytes of input that it may have
 pub record IsOverfed (s : RunSettings) (guests : List NamedGuest) (before after : Option (List ℕ)) : Type 0 where
   pub number : ℕ
   pub is_fed : s.stdin ≡ Some number
   pub named : NamedGuest
   pub found : slice_get guests (number - 1) ≡ Some named
-  pub rounds : ℕ
-  pub few : rounds < s.rounds
   pub feeds : List Feed
-  pub between : Option (List ℕ)
-  pub read : AreRead rounds feeds before between
-  pub running : IsOneRunning s guests feeds rounds
+  pub fits : FitsInput named.guest feeds
+  pub now : Option (List ℕ)
+  pub due : IsPieceDue s guests feeds before now
   pub last : List ℕ
   pub piece : length last ≤ 4096
-  pub came : Consumes between after last
+  pub came : Consumes now after last
   pub more : 16777216 < length named.guest.input + length (bytes_of_feeds feeds) + length last
 
--- Why the guests' turns ended early: nothing could be read for the one that is fed, or what was read is more than it may have, or the host
--- had no memory for it.
-abbrev pub IsFeedingFailure : RunSettings → List NamedGuest → (before after : Option (List ℕ)) → Failure → Type 0
-IsFeedingFailure s guests before after StandardInput = s.stdin ≢ None
-IsFeedingFailure s guests before after FeedTooLong = IsOverfed s guests before after
-IsFeedingFailure s guests before after HostMemory = s.stdin ≢ None
-IsFeedingFailure s guests before after failure = ⊥
-
--- Why there is no report on guests: the host refused one, before anything was read; or, with all of them admitted, what was read for one
--- was too long, or nothing could be read; or the host had no memory, where the first of them is within its limits; or the program had none.
--- Where none is fed nothing was read.
+-- Why there is no report on guests: the host refused one, before anything was read; or, with all of them admitted, a piece could not be
+-- read for one, or was too much; or the host had no memory, where the first of them is within its limits; or the program had none. Where
+-- none is fed nothing was read.
 abbrev pub IsGuestsFailure : RunSettings → List NamedGuest → (before after : Option (List ℕ)) → Failure → Type 0
-IsGuestsFailure s guests before after (Unreadable name) = ⊥
-IsGuestsFailure s guests before after (LibraryRefused name reason) = ⊥
-IsGuestsFailure s guests before after StandardInput = AreAllowed (budget_of s.budget) guests (length guests) × (s.stdin ≢ None)
 IsGuestsFailure s guests before after (Refused fault) = IsRefusedAmong (budget_of s.budget) guests fault × (after ≡ before)
+IsGuestsFailure s guests before after StandardInput =
+    AreAllowed (budget_of s.budget) guests (length guests) × IsUnreadPiece s guests before after
 IsGuestsFailure s guests before after FeedTooLong =
     AreAllowed (budget_of s.budget) guests (length guests) × IsOverfed s guests before after
-IsGuestsFailure s guests before after TooManyFolders = ⊥
-IsGuestsFailure s guests before after NoGuest = ⊥
 IsGuestsFailure s guests before after HostMemory =
     IsFirstWithin (budget_of s.budget) guests × (s.stdin ≡ None → after ≡ before)
 IsGuestsFailure s guests before after OutOfMemory = s.stdin ≡ None → after ≡ before
+IsGuestsFailure s guests before after failure = ⊥

@@ -5,9 +5,9 @@ ghost use Rattle.jv_host.specs.Started.{budget_of};
 ghost use Rattle.jv_host.specs.Calls.{IsShown, NoneRuns};
 ghost use Rattle.jv_program_run.specs.Feeding.{is_no_guest};
 ghost use Rattle.jv_program_run.specs.Inside.Brought.{named_guest_of};
-ghost use Rattle.jv_program_run.specs.Inside.Play.{AreReportsOn, HasRun, IsAdmitFailure, IsReportOf, at_start, told_of};
+ghost use Rattle.jv_program_run.specs.Inside.Play.{AreReportsOn, HasRun, IsAdmitFailure, IsFeedingFailure, IsReportOf, at_start, told_of};
 ghost use Rattle.jv_program_run.specs.Inside.Turns.{AreAtStart, NoneFed, PlayedSince, SomeWent};
-ghost use Rattle.jv_program_run.specs.Outcome.{AreAllowed, IsFeedingFailure, IsGuestsFailure};
+ghost use Rattle.jv_program_run.specs.Outcome.{AreAllowed, IsGuestsFailure};
 
 use crate::brought::{Brought, guest_files};
 use crate::feeding::run_fed;

@@ -1,5 +1,5 @@
 -- What a host comes to that runs the guests of folders.
-use Rattle.std.specs.Prelude.{◌≡◌, ◌≢◌, ℕ, ◌+◌, ◌<◌, ◌≤◌, Bool, IsTrue, List, [], Option, Some, map, option_map, length, slice_get, string_bytes}
+use Rattle.std.specs.Prelude.{◌≡◌, ◌≢◌, ℕ, ◌+◌, ◌<◌, ◌≤◌, Bool, IsTrue, List, [], Option, Some, None, map, option_map, length, slice_get, string_bytes}
 use Rattle.jv_meaning_machine.specs.Start.{Budget}
 use Rattle.jv_meaning_machine.specs.Alone.{Feed}
 use Rattle.jv_host.specs.Started.{budget_of}
@@ -7,14 +7,14 @@ use Rattle.jv_host.specs.Showing.{observed_of}
 use Rattle.jv_host.specs.Host.{Admission, input_bytes}
 use Rattle.jv_host.specs.Calls.{IsShown, NoneRuns, admission}
 use Rattle.jv_program_base.specs.declared.failure.Failure.{Failure}
-use Rattle.jv_program_base.specs.declared.failure.Failure.TheVariants.{Refused, HostMemory}
+use Rattle.jv_program_base.specs.declared.failure.Failure.TheVariants.{Refused, StandardInput, FeedTooLong, HostMemory}
 use Rattle.jv_program_run.specs.declared.report.PlaceInFile.{PlaceInFile}
 use Rattle.jv_program_run.specs.declared.report.Report.{Report}
 use Rattle.jv_program_run.specs.declared.settings.RunSettings.{RunSettings}
 use Rattle.jv_limits.specs.Bytes.{bytes_of}
 use Rattle.jv_program_run.specs.Feeding.{AreFeedsFrom, feeds_to}
 use Rattle.jv_program_run.specs.Guests.{NamedGuest}
-use Rattle.jv_program_run.specs.Outcome.{IsFirstWithin, IsRefusedAmong}
+use Rattle.jv_program_run.specs.Outcome.{IsFirstWithin, IsOverfed, IsRefusedAmong, IsUnreadPiece}
 use Rattle.jv_program_run.specs.Instruction.{IsInstructionOfThrow}
 use Rattle.jv_program_run.specs.Report.{PlaceInFile as SaidInFile, Told}
 use Rattle.jv_program_run.specs.Inside.Turns.{PlayedSince, SomeWent}
@@ -43,6 +43,13 @@ abbrev pub IsAdmitFailure : Budget → List NamedGuest → Failure → Type 0
 IsAdmitFailure b guests (Refused fault) = IsRefusedAmong b guests fault
 IsAdmitFailure b guests HostMemory = IsFirstWithin b guests
 IsAdmitFailure b guests failure = ⊥
+
+-- why the turns of admitted guests ended early
+abbrev pub IsFeedingFailure : RunSettings → List NamedGuest → (before after : Option (List ℕ)) → Failure → Type 0
+IsFeedingFailure s guests before after StandardInput = IsUnreadPiece s guests before after
+IsFeedingFailure s guests before after FeedTooLong = IsOverfed s guests before after
+IsFeedingFailure s guests before after HostMemory = s.stdin ≢ None
+IsFeedingFailure s guests before after failure = ⊥
 
 -- ---- reports
 

@@ -1,6 +1,6 @@
 -- Turns of guests, and what is fed to one of them in between.
 use Rattle.std.specs.Prelude.{◌≡◌, ◌≢◌, ℕ, zero, suc, ◌*◌, ◌<◌, ◌≤◌, ⊤, Bool, true, false, IsTrue, List, [], All, Option, Some, None, length, slice_get}
-use Rattle.std.specs.Io.KnownBytes.{Consumes, IsAtEnd}
+use Rattle.std.specs.Io.KnownBytes.{Consumes, IsAtEnd, Keeps}
 use Rattle.jv_meaning_machine.specs.Alone.{Feed}
 use Rattle.jv_limits.specs.declared.fault.FeedFault.TheVariants as feeds
 use Rattle.jv_host.specs.Host.{Admission, IsRunningAfter, IsOverAfter, after_feed, input_bytes}
@@ -89,30 +89,35 @@ pub record IsFedRun (n most id : ℕ) (old new : List Admission) (before after :
 
 -- why what was read did not come to a guest
 abbrev pub IsNextFailure : (id : ℕ) → List Admission → (before after : Option (List ℕ)) → Failure → Type 0
-IsNextFailure id host before after StandardInput = ⊤
+IsNextFailure id host before after StandardInput = Keeps before after
 IsNextFailure id host before after FeedTooLong =
     (bytes : List ℕ) × (length bytes ≤ 4096) × Consumes before after bytes × (feed_refusal host id bytes ≡ Some feeds.InputTooLong)
 IsNextFailure id host before after HostMemory = ⊤
 IsNextFailure id host before after failure = ⊥
 
--- More came than the guest at a place may have, before one more round than guests had, in which some still takes steps.
-pub record IsFedTooMuch (n most id : ℕ) (old : List Admission) (before after : Option (List ℕ)) : Type 0 where
+-- A piece is due for the guest at a place: a piece came before each of the rounds that guests had, and some still takes steps.
+pub record IsNextDue (n most id : ℕ) (old host : List Admission) (before now : Option (List ℕ)) : Type 0 where
   pub rounds : ℕ
   pub few : rounds < most
-  pub host : List Admission
   pub played : PlayedSince n rounds old host
   pub only : OnlyFed id host
-  pub between : Option (List ℕ)
-  pub read : ReadSoFar id rounds host before between true
+  pub read : ReadSoFar id rounds host before now true
   pub runs : SomeRuns host
+
+-- with it the guest would have more than it may have
+pub record IsFedTooMuch (n most id : ℕ) (old : List Admission) (before after : Option (List ℕ)) : Type 0 where
+  pub host : List Admission
+  pub now : Option (List ℕ)
+  pub due : IsNextDue n most id old host before now
   pub last : List ℕ
   pub piece : length last ≤ 4096
-  pub came : Consumes between after last
+  pub came : Consumes now after last
   pub refused : feed_refusal host id last ≡ Some feeds.InputTooLong
 
 -- why the rounds ended early: the input can't be read, the guest has more of it than it may have, or the host had no memory for it
 abbrev pub IsFeedFailure : (n most id : ℕ) → List Admission → (before after : Option (List ℕ)) → Failure → Type 0
-IsFeedFailure n most id old before after StandardInput = ⊤
+IsFeedFailure n most id old before after StandardInput =
+    (host : List Admission) × (now : Option (List ℕ)) × IsNextDue n most id old host before now × Keeps now after
 IsFeedFailure n most id old before after FeedTooLong = IsFedTooMuch n most id old before after
 IsFeedFailure n most id old before after HostMemory = ⊤
 IsFeedFailure n most id old before after failure = ⊥

@@ -2,7 +2,7 @@ use Rattle.std.proofs.Common.{map, length}
 use Rattle.std.proofs.lemmas.List.{length-map}
 use Rattle.jv_host.specs.Started.{budget_of}
 use Rattle.jv_program_run.specs.Inside.Brought.{named_guest_of}
-use Rattle.jv_program_run.specs.Outcome.{IsFeedingFailure}
+use Rattle.jv_program_run.specs.Inside.Play.{IsFeedingFailure}
 use Rattle.jv_program_base.proofs.Places.{passed_on}
 use Rattle.jv_program_run.proofs.Played.{all_at_start, fed_run, fed_there, one_of, unfed_run}
 use Rattle.jv_program_run.proofs.Overfed.{feeding_failed}
