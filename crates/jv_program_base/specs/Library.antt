@@ -69,7 +69,8 @@ path_at word names place = unwrap_or (option_map (path_in word) (option_and_then
 abbrev pub AreNoLibrary : (word : List ℕ) → (files : List NamedFile) → (name reason : List ℕ) → Type 0
 AreNoLibrary word files name reason =
     ((fault : AdmitFault) × (first_file_refusal (map file_bytes files) ≡ Some fault) × (name ≡ word) × (reason ≡ admit_fault_name fault))
-    ⊎ ((fault : LibraryFault) × (fault ≢ faults.OutOfMemory) × IsLibraryFault (map file_bytes files) fault
+    ⊎ ((fault : LibraryFault) × (fault ≢ faults.OutOfMemory) × (first_file_refusal (map file_bytes files) ≡ None)
+    × IsLibraryFault (map file_bytes files) fault
     × (name ≡ path_at word (map file_name files) (fault_place fault)) × (reason ≡ library_fault_name fault))
 
 -- Why there is no library: its folder, or a class file in it, can't be read; or its files are none; or the program's memory was refused.

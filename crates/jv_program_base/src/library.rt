@@ -82,6 +82,7 @@ fn refusal(
     files: &[NamedFile],
     fault: LibraryFault,
 ) -> Result<Failure, AllocError>
+    requires few { first_file_refusal (map file_bytes files.now) ≡ None }
     requires fault { IsLibraryFault (map file_bytes files.now) fault }
     requires memory { fault ≢ LibraryFault.OutOfMemory }
     ensures { IfOk result (IsRefusedIn word.now files.now) }
